@@ -1,0 +1,11 @@
+pub mod Xor
+pub mod Linear
+pub mod Strings
+pub mod Table
+pub mod CheckWord
+pub mod Bytes
+pub mod Reading
+pub mod RoundTrip
+pub mod Taken
+pub mod Inverted
+pub mod Determined

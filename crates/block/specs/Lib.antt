@@ -1,0 +1,6 @@
+pub mod Bits
+pub mod Division
+pub mod Block
+pub mod Read
+pub mod Write
+pub mod Choose

@@ -1,0 +1,18 @@
+-- The numbers of the refusals (01, "Numbers given when something is refused").
+-- Assumes nothing.
+use Prim.Native.Nat.{ℕ}
+use Rattle.refusal.specs.declared.Refusal.{Refusal}
+use Rattle.refusal.specs.declared.Refusal.the-variants.{NotABit, WrongLength, WrongPrefix, WrongCheckWord, NotARecord, OutOfRange, NotInYear, WrongYear, RunTooLong, Improper}
+
+-- each row of the table, in its order; 0 is left for "not refused"
+abbrev pub numberOf : Refusal → ℕ
+numberOf NotABit = 1
+numberOf WrongLength = 2
+numberOf WrongPrefix = 3
+numberOf WrongCheckWord = 4
+numberOf NotARecord = 5
+numberOf OutOfRange = 6
+numberOf NotInYear = 7
+numberOf WrongYear = 8
+numberOf RunTooLong = 9
+numberOf Improper = 10

@@ -1,0 +1,44 @@
+// Why something is refused: one case for each row of document 01, "Numbers given when something is refused".
+ghost use mathlib.Core.Path.{_≡_};
+ghost use Rattle.refusal.specs.Numbers.{numberOf};
+
+pub enum Refusal {
+    // A bit is neither 0 nor 1.
+    NotABit,
+    // A block slice is not 50 long.
+    WrongLength,
+    // The prefix is 0.
+    WrongPrefix,
+    // The check word is not the remainder.
+    WrongCheckWord,
+    // The code is not 0, or the word is a filler.
+    NotARecord,
+    // A field or a code is out of range, or there is no such month or day.
+    OutOfRange,
+    // The day is not in its year, or it falls in week 54.
+    NotInYear,
+    // A first year or a written year is outside the calendar.
+    WrongYear,
+    // A run is longer than 65,536.
+    RunTooLong,
+    // The lent state is not proper.
+    Improper,
+}
+
+// The number that document 01 gives the refusal.
+pub fn number(refusal: Refusal) -> u8
+    ensures { λ r. ⌜ r ≡ numberOf refusal ⌝ }
+{
+    match refusal {
+        Refusal::NotABit => 1,
+        Refusal::WrongLength => 2,
+        Refusal::WrongPrefix => 3,
+        Refusal::WrongCheckWord => 4,
+        Refusal::NotARecord => 5,
+        Refusal::OutOfRange => 6,
+        Refusal::NotInYear => 7,
+        Refusal::WrongYear => 8,
+        Refusal::RunTooLong => 9,
+        Refusal::Improper => 10,
+    }
+}

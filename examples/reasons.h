@@ -1,0 +1,25 @@
+/* The reason for each refusal, in words. */
+#ifndef REASONS_H
+#define REASONS_H
+
+#include "longwave.h"
+
+static inline const char *reason_of(uint8_t refusal)
+{
+    switch (refusal) {
+    case LW_OK: return "not refused";
+    case LW_NOT_A_BIT: return "a bit is neither 0 nor 1";
+    case LW_WRONG_LENGTH: return "a block is not 50 bits long";
+    case LW_WRONG_PREFIX: return "the prefix is 0";
+    case LW_WRONG_CHECK_WORD: return "the check word is not the remainder";
+    case LW_NOT_A_RECORD: return "code not 0, or a filler";
+    case LW_OUT_OF_RANGE: return "out of range";
+    case LW_NOT_IN_YEAR: return "the day is not in its year";
+    case LW_WRONG_YEAR: return "the year is out of range";
+    case LW_RUN_TOO_LONG: return "a run is longer than 65,536 bits";
+    case LW_IMPROPER: return "the state is not proper";
+    default: return "no such refusal";
+    }
+}
+
+#endif

@@ -1,0 +1,52 @@
+//! Safe calls to the library, as `include/longwave.h` declares them.
+
+/// What was read; the numbers are those of document 01.
+#[repr(C)]
+#[derive(Clone, Copy, Debug, PartialEq)]
+pub struct Block {
+    pub refusal: u8,
+    pub code: u8,
+    pub word: u32,
+}
+
+impl Block {
+    /// What a refusal gives: code and word are zeros.
+    pub fn refused(refusal: u8) -> Self {
+        Block { refusal, code: 0, word: 0 }
+    }
+
+    /// A block that was taken.
+    pub fn taken(code: u8, word: u32) -> Self {
+        Block { refusal: 0, code, word }
+    }
+}
+
+extern "C" {
+    fn lw_read_block(bits: *const u8, len: usize) -> Block;
+    fn lw_write_block(code: u8, word: u32, bits: *mut u8, len: usize) -> u8;
+    fn lw_choose(
+        first: *const u8,
+        first_len: usize,
+        second: *const u8,
+        second_len: usize,
+        number: *mut u8,
+    ) -> u8;
+}
+
+// In each call below a slice stands behind the pointers, so they are valid for
+// their lengths, and what is borrowed for writing overlaps nothing else.
+
+/// Reads a block.
+pub fn read_block(bits: &[u8]) -> Block {
+    unsafe { lw_read_block(bits.as_ptr(), bits.len()) }
+}
+
+/// Writes a block over `bits` and answers the refusal, 0 when written.
+pub fn write_block(code: u8, word: u32, bits: &mut [u8]) -> u8 {
+    unsafe { lw_write_block(code, word, bits.as_mut_ptr(), bits.len()) }
+}
+
+/// Answers 1 for the first, 2 for the second, 0 for neither, and sets `number`.
+pub fn choose(first: &[u8], second: &[u8], number: &mut u8) -> u8 {
+    unsafe { lw_choose(first.as_ptr(), first.len(), second.as_ptr(), second.len(), number) }
+}

@@ -1,0 +1,81 @@
+//! The block by long division on one number, written from document 01 alone.
+//!
+//! A polynomial modulo 2 is a number, one bit for each power of x, and a block
+//! is its fifty bits as one number: bit 49 is the first sent.
+
+use crate::refusals::{NOT_A_BIT, OUT_OF_RANGE, WRONG_CHECK_WORD, WRONG_LENGTH, WRONG_PREFIX};
+
+/// Places in a block.
+pub const BLOCK: usize = 50;
+
+/// The prefix, as a bit of the block's number.
+pub const PREFIX: u64 = 1 << 49;
+
+/// x^13+x^12+x^11+x^10+x^7+x^6+x^5+x^4+x^2+1.
+pub const GENERATOR: u64 =
+    1 << 13 | 1 << 12 | 1 << 11 | 1 << 10 | 1 << 7 | 1 << 6 | 1 << 5 | 1 << 4 | 1 << 2 | 1;
+
+/// What long division by the generator leaves: while the leading power is 13 or
+/// more, it is taken away with a multiple of the generator.
+pub const fn remainder(mut dividend: u64) -> u64 {
+    while dividend >= 1 << 13 {
+        dividend ^= GENERATOR << (dividend.ilog2() - GENERATOR.ilog2());
+    }
+    dividend
+}
+
+/// The check word of the 36 bits of code and word.
+pub const fn check_word(message: u64) -> u64 {
+    remainder(message << 13)
+}
+
+/// The good block of a code up to 15 and a word.
+pub fn block(code: u8, word: u32) -> u64 {
+    let message = u64::from(code) << 32 | u64::from(word);
+    PREFIX | message << 13 | check_word(message)
+}
+
+/// Fifty bits as bytes, in the order of sending.
+pub fn bits_of(block: u64) -> [u8; BLOCK] {
+    std::array::from_fn(|place| (block >> (BLOCK - 1 - place) & 1) as u8)
+}
+
+/// Code and word, or the refusal.
+pub fn read(bits: &[u8]) -> Result<(u8, u32), u8> {
+    if bits.len() != BLOCK {
+        return Err(WRONG_LENGTH);
+    }
+    if bits.iter().any(|&bit| bit > 1) {
+        return Err(NOT_A_BIT);
+    }
+    let block = bits.iter().fold(0, |number, &bit| number << 1 | u64::from(bit));
+    if block & PREFIX == 0 {
+        return Err(WRONG_PREFIX);
+    }
+    // Message and check word together divide evenly exactly when the check
+    // word is the remainder.
+    if remainder(block ^ PREFIX) != 0 {
+        return Err(WRONG_CHECK_WORD);
+    }
+    Ok(((block >> 45 & 15) as u8, (block >> 13) as u32))
+}
+
+/// The fifty bits to be written into a slice of `len`, or the refusal.
+pub fn write(code: u8, word: u32, len: usize) -> Result<[u8; BLOCK], u8> {
+    if len != BLOCK {
+        Err(WRONG_LENGTH)
+    } else if code > 15 {
+        Err(OUT_OF_RANGE)
+    } else {
+        Ok(bits_of(block(code, word)))
+    }
+}
+
+/// Which of the two holds the block, 0 for neither, and the number beside it.
+pub fn choose(first: &[u8], second: &[u8]) -> (u8, u8) {
+    match (read(first), read(second)) {
+        (Ok(_), _) => (1, 0),
+        (Err(_), Ok(_)) => (2, 0),
+        (Err(number), Err(_)) => (0, number),
+    }
+}

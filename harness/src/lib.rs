@@ -1,0 +1,13 @@
+//! Compares the long-wave library with a program that shares nothing with it.
+//!
+//! `face` calls the library, `independent` answers from the rules alone, and
+//! `compare` demands that both say the same. `changes` and `slips` list what
+//! can go wrong on the air, and `random` makes runs that can be repeated.
+
+pub mod changes;
+pub mod compare;
+pub mod face;
+pub mod independent;
+pub mod random;
+pub mod refusals;
+pub mod slips;

@@ -1,0 +1,76 @@
+//! Random numbers that come out the same in every run with the same seed.
+
+use std::env;
+
+use crate::independent::{bits_of, block, BLOCK};
+
+/// The seed: `HARNESS_SEED` if it is set, else a fixed one.
+pub fn seed() -> u64 {
+    match env::var("HARNESS_SEED") {
+        Ok(text) => {
+            text.parse().unwrap_or_else(|_| panic!("HARNESS_SEED: expected a number, got '{text}'"))
+        }
+        Err(_) => 198_000,
+    }
+}
+
+/// Says how much was compared, and with which seed it can be done again.
+pub fn report(what: &str, count: usize) {
+    println!("{what}: {count} compared, seed {}", seed());
+}
+
+/// The generator known as splitmix64.
+pub struct Random(u64);
+
+impl Random {
+    /// A stream of its own for each name, so that tests may run in any order.
+    pub fn named(name: &str) -> Self {
+        Random(name.bytes().fold(seed(), |state, byte| Random(state ^ u64::from(byte)).number()))
+    }
+
+    pub fn number(&mut self) -> u64 {
+        self.0 = self.0.wrapping_add(0x9E37_79B9_7F4A_7C15);
+        let mut mixed = self.0;
+        mixed = (mixed ^ mixed >> 30).wrapping_mul(0xBF58_476D_1CE4_E5B9);
+        mixed = (mixed ^ mixed >> 27).wrapping_mul(0x94D0_49BB_1331_11EB);
+        mixed ^ mixed >> 31
+    }
+
+    /// A number from 0 to `end`, without `end`.
+    pub fn below(&mut self, end: usize) -> usize {
+        (self.number() % end as u64) as usize
+    }
+
+    /// A code from 0 to 15 and a word.
+    pub fn code_and_word(&mut self) -> (u8, u32) {
+        let number = self.number();
+        ((number >> 60) as u8, number as u32)
+    }
+
+    /// A good block.
+    pub fn block(&mut self) -> u64 {
+        let (code, word) = self.code_and_word();
+        block(code, word)
+    }
+
+    /// A byte that is not a bit.
+    pub fn not_a_bit(&mut self) -> u8 {
+        2 + self.below(254) as u8
+    }
+
+    /// The block with one byte that is not a bit.
+    pub fn not_all_bits(&mut self, block: u64) -> [u8; BLOCK] {
+        let mut bits = bits_of(block);
+        bits[self.below(BLOCK)] = self.not_a_bit();
+        bits
+    }
+
+    /// A change of exactly `count` of a block's places.
+    pub fn change(&mut self, count: usize) -> u64 {
+        let mut change: u64 = 0;
+        while change.count_ones() < count as u32 {
+            change |= 1 << self.below(BLOCK);
+        }
+        change
+    }
+}
