@@ -1,0 +1,12 @@
+pub mod Each
+pub mod Zeros
+pub mod Odd
+pub mod Places
+pub mod Burst
+pub mod Groups
+pub mod Refusal
+pub mod Damage
+pub mod Overlap
+pub mod Seams
+pub mod Slips
+pub mod Limits
