@@ -5,8 +5,8 @@
  *
  * No call keeps a pointer. A pointer must not be null, not even with length 0,
  * and must be valid for the length beside it; what is lent for writing must
- * not overlap anything else in the same call. Any length, any byte values,
- * code and word are answered, if need be by a refusal.
+ * not overlap anything else in the same call. Any length and any values of
+ * bytes, numbers and fields are answered, if need be by a refusal.
  */
 #ifndef LONGWAVE_H
 #define LONGWAVE_H
@@ -55,6 +55,69 @@ uint8_t lw_write_block(uint8_t code, uint32_t word, uint8_t *bits, size_t len);
  * refusal that reading the first gives. The bytes of both stay as they are. */
 uint8_t lw_choose(const uint8_t *first, size_t first_len,
                   const uint8_t *second, size_t second_len, uint8_t *number);
+
+/* What a time block says of the minute that begins with the first bit of the
+ * next block. Time is UTC. The offset of local time is carried along with
+ * records and dates, and never applied to them. */
+typedef struct lw_record {
+    uint8_t leap;      /* 0 this year is leap, 1 last year was, 2 two or more years away,
+                          3 next year is */
+    uint8_t start_day; /* weekday of 1 January, 1 (Monday) to 7 */
+    uint8_t week;      /* 1 to 53; week 1 is the Monday-to-Sunday week that holds 1 January */
+    uint8_t weekday;   /* 1 (Monday) to 7 */
+    uint8_t hour;      /* 0 to 23 */
+    uint8_t minute;    /* 0 to 59 */
+    int8_t offset;     /* -32 to 31, in steps of half an hour */
+} lw_record;
+
+/* A date. Hour, minute and offset are those of its record. */
+typedef struct lw_date {
+    uint16_t year; /* 1901 to 2099 */
+    uint8_t month; /* 1 to 12 */
+    uint8_t day;   /* 1 to the last of the month */
+    uint8_t hour;
+    uint8_t minute;
+    int8_t offset;
+} lw_date;
+
+/* Answers about records and dates: all but the refusal is 0 where refused. */
+typedef struct lw_word {
+    uint8_t refusal;
+    uint32_t word;
+} lw_word;
+
+typedef struct lw_recorded {
+    uint8_t refusal;
+    struct lw_record record;
+} lw_recorded;
+
+typedef struct lw_dated {
+    uint8_t refusal;
+    struct lw_date date;
+} lw_dated;
+
+/* Reads the record in a block's code and word. Whether its day is in its year
+ * is not tested. Refusals, in this order: 5, 6. */
+lw_recorded lw_read_record(uint8_t code, uint32_t word);
+
+/* Answers the word of a record; its block has code 0. Whether its day is in its
+ * year is not tested. Refusal: 6. */
+lw_word lw_write_record(lw_record record);
+
+/* Answers the date of a record. A record names no year: leap code and start day
+ * fix one of the 28 years from `first_year` (1901 to 2072) on.
+ * Refusals, in this order: 8, 6, 7. */
+lw_dated lw_date_of_record(lw_record record, uint16_t first_year);
+
+/* Answers the record of a date. 31 December of a leap year that starts on a
+ * Sunday would fall in week 54 and is refused with 7.
+ * Refusals, in this order: 8, 6, 7. */
+lw_recorded lw_record_of_date(lw_date date);
+
+/* Answers the record of the next minute, with the same offset. At 23:59, where
+ * the next day falls in week 54, there is none: 7.
+ * Refusals, in this order: 6, 7. */
+lw_recorded lw_next_minute(lw_record record);
 
 #ifdef __cplusplus
 }

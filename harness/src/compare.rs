@@ -1,6 +1,10 @@
 //! One call to the library and the same question to the independent program:
 //! answers and every lent byte must agree, and no byte beside them may change.
 
+mod record;
+
+pub use record::*;
+
 use std::hint::black_box;
 
 use crate::face::{self, Block};

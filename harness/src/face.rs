@@ -1,5 +1,9 @@
 //! Safe calls to the library, as `include/longwave.h` declares them.
 
+mod record;
+
+pub use record::*;
+
 /// What was read; the numbers are those of document 01.
 #[repr(C)]
 #[derive(Clone, Copy, Debug, PartialEq)]

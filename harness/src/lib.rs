@@ -2,11 +2,13 @@
 //!
 //! `face` calls the library, `independent` answers from the rules alone, and
 //! `compare` demands that both say the same. `changes` and `slips` list what
-//! can go wrong on the air, and `random` makes runs that can be repeated.
+//! can go wrong on the air, `fields` what can be wrong in a caller's values, and
+//! `random` makes runs that can be repeated.
 
 pub mod changes;
 pub mod compare;
 pub mod face;
+pub mod fields;
 pub mod independent;
 pub mod random;
 pub mod refusals;

@@ -2,6 +2,7 @@
 
 use std::env;
 
+use crate::face::{Date, Record};
 use crate::independent::{bits_of, block, BLOCK};
 
 /// The seed: `HARNESS_SEED` if it is set, else a fixed one.
@@ -41,6 +42,11 @@ impl Random {
         (self.number() % end as u64) as usize
     }
 
+    /// A number from `first` to `last`, both counted.
+    pub fn between(&mut self, first: u8, last: u8) -> u8 {
+        first + self.below(usize::from(last - first) + 1) as u8
+    }
+
     /// A code from 0 to 15 and a word.
     pub fn code_and_word(&mut self) -> (u8, u32) {
         let number = self.number();
@@ -72,5 +78,41 @@ impl Random {
             change |= 1 << self.below(BLOCK);
         }
         change
+    }
+
+    /// An offset in its range, -32 to 31.
+    pub fn offset(&mut self) -> i8 {
+        self.below(64) as i8 - 32
+    }
+
+    /// A record with every field in range. Its day need not be in its year.
+    pub fn record(&mut self) -> Record {
+        Record {
+            leap: self.between(0, 3),
+            start_day: self.between(1, 7),
+            week: self.between(1, 53),
+            weekday: self.between(1, 7),
+            hour: self.between(0, 23),
+            minute: self.between(0, 59),
+            offset: self.offset(),
+        }
+    }
+
+    /// A date of 1901 to 2099. Its month may lack its day.
+    pub fn date(&mut self) -> Date {
+        Date {
+            year: 1901 + self.below(199) as u16,
+            month: self.between(1, 12),
+            day: self.between(1, 31),
+            hour: self.between(0, 23),
+            minute: self.between(0, 59),
+            offset: self.offset(),
+        }
+    }
+
+    /// The same with one byte, whichever, of any value.
+    pub fn with_any_byte<const N: usize>(&mut self, mut bytes: [u8; N]) -> [u8; N] {
+        bytes[self.below(N)] = self.number() as u8;
+        bytes
     }
 }

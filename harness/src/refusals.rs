@@ -1,7 +1,10 @@
-//! Document 01's numbers for what the block refuses.
+//! Document 01's numbers for what is refused.
 
 pub const NOT_A_BIT: u8 = 1;
 pub const WRONG_LENGTH: u8 = 2;
 pub const WRONG_PREFIX: u8 = 3;
 pub const WRONG_CHECK_WORD: u8 = 4;
+pub const NOT_A_RECORD: u8 = 5;
 pub const OUT_OF_RANGE: u8 = 6;
+pub const NOT_IN_YEAR: u8 = 7;
+pub const WRONG_YEAR: u8 = 8;

@@ -2,7 +2,24 @@
 -- Assumes nothing.
 use Rattle.block.specs.Read.{refusalIn, codeRead, wordRead}
 use Rattle.block.specs.declared.Read.{Read}
+use Rattle.calendar.specs.Given.{givenDate}
+use Rattle.calendar.specs.declared.Dated.{Dated}
+use Rattle.record.specs.Given.{givenRecord, givenWord}
+use Rattle.record.specs.declared.Recorded.{Recorded}
+use Rattle.record.specs.declared.Worded.{Worded}
+use Rattle.longwave.specs.declared.DateAnswer.{DateAnswer}
+use Rattle.longwave.specs.declared.RecordAnswer.{RecordAnswer}
+use Rattle.longwave.specs.declared.WordAnswer.{WordAnswer}
 use Rattle.longwave.specs.declared.BlockAnswer.{BlockAnswer}
 
 abbrev pub blockFace : Read → BlockAnswer
 blockFace read = record { refusal = refusalIn read; code = codeRead read; word = wordRead read }
+
+abbrev pub wordFace : Worded → WordAnswer
+wordFace answer = record { refusal = givenWord answer .0; word = givenWord answer .1 }
+
+abbrev pub recordFace : Recorded → RecordAnswer
+recordFace answer = record { refusal = givenRecord answer .0; given = givenRecord answer .1 }
+
+abbrev pub dateFace : Dated → DateAnswer
+dateFace answer = record { refusal = givenDate answer .0; given = givenDate answer .1 }

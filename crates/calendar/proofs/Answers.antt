@@ -1,0 +1,90 @@
+-- What each answer says of its input: the tests that were passed on the way to it.
+-- Assumes nothing.
+use Prim.Native.Nat.{ℕ, _≤_, _<_}
+use native.Mathlib.Omega.{arith}
+use mathlib.Core.Path.{_≡_, refl, ap, _∙_}
+use mathlib.Core.Bool.{true}
+use borrow.Author.Tests.{leb-true, le-leb, lt-leb}
+use lib.Dec.{leb}
+use Rattle.refusal.specs.declared.Refusal.{Refusal}
+use Rattle.refusal.specs.declared.Refusal.the-variants.{OutOfRange, NotInYear, WrongYear}
+use Rattle.record.specs.declared.Record.{Record}
+use Rattle.record.specs.declared.Recorded.{Recorded}
+use Rattle.record.specs.declared.Recorded.the-variants as recorded
+use Rattle.record.specs.Ranges.{within, inRange}
+use Rattle.record.proofs.Tests.{between, is-within, chosen, not-given}
+use Rattle.calendar.specs.declared.Date.{Date}
+use Rattle.calendar.specs.declared.Dated.the-variants as dated
+use Rattle.calendar.specs.Years.{firstYear, lastFirstYear, lastYear}
+use Rattle.calendar.specs.Days.{dayInYear}
+use Rattle.calendar.specs.Dates.{usableOf, dateIn, dateAfter, dateOf, dateInRange, recordAt, recordOf}
+use Rattle.calendar.proofs.Bounds.{Bounds, bounds, in-range}
+
+not-dated : (why : Refusal) (d : Date) → dated.Refused why ≡ dated.Given d → ⊥
+not-dated why d e = let z : _≡_ {A = ℕ} 0 1 = cc in omega arith
+
+after-given : (first : ℕ) (d : Date) (u : Recorded) → dateAfter first u ≡ dated.Given d → (r : Record) × (u ≡ recorded.Given r) × (dateIn first r ≡ d)
+unfolding dateAfter
+after-given first d (recorded.Given r) e = (r, refl, cc)
+after-given first d (recorded.Refused why) e = absurd (not-dated why d e)
+
+-- ---- a usable record
+
+pub record Usable (r : Record) : Type 0 where
+  pub in-range : inRange r ≡ true
+  pub in-year : dayInYear r ≡ true
+
+pub usable-given : (u r : Record) → usableOf u ≡ recorded.Given r → (u ≡ r) × Usable r
+unfolding usableOf
+usable-given u r e =
+    let a = chosen (inRange u) _ _ _ (not-given OutOfRange r) e in
+    let b = chosen (dayInYear u) _ _ _ (not-given NotInYear r) (a .1) in
+    let same : u ≡ r = cc in
+    (same, record { in-range = rw same at (a .0); in-year = rw same at (b .0) })
+
+pub usable-is : (r : Record) → Usable r → usableOf r ≡ recorded.Given r
+unfolding usableOf
+usable-is r u = rw (u .in-range, u .in-year)
+
+-- ---- the record of a date
+
+pub record InCalendar (d : Date) : Type 0 where
+  pub from : firstYear ≤ d .year
+  pub to : d .year ≤ lastYear
+  pub bounds : Bounds d
+
+module _ (d : Date) (c : InCalendar d) where
+  pub record-is : recordAt d .week ≤ 53 → recordOf d ≡ recorded.Given (recordAt d)
+  unfolding recordOf
+  record-is h = rw (is-within 1901 (d .year) 2099 (c .from) (c .to), in-range d (c .bounds), le-leb (recordAt d .week) 53 h)
+
+  pub record-none : 53 < recordAt d .week → recordOf d ≡ recorded.Refused NotInYear
+  unfolding recordOf
+  record-none h = rw (is-within 1901 (d .year) 2099 (c .from) (c .to), in-range d (c .bounds), lt-leb (recordAt d .week) 53 h)
+
+pub record-given : (d : Date) (r : Record) → recordOf d ≡ recorded.Given r → InCalendar d × (recordAt d .week ≤ 53) × (recordAt d ≡ r)
+unfolding recordOf
+record-given d r e =
+    let a = chosen (within firstYear (d .year) lastYear) _ _ _ (not-given WrongYear r) e in
+    let b = chosen (dateInRange d) _ _ _ (not-given OutOfRange r) (a .1) in
+    let c = chosen (leb (recordAt d .week) 53) _ _ _ (not-given NotInYear r) (b .1) in
+    let year = between 1901 (d .year) 2099 (a .0) in
+    (record { from = year .0; to = year .1; bounds = bounds d (b .0) }, leb-true _ 53 (c .0), cc)
+
+-- ---- the date of a record
+
+pub date-is : (r : Record) (first : ℕ) → firstYear ≤ first → first ≤ lastFirstYear → Usable r → dateOf r first ≡ dated.Given (dateIn first r)
+unfolding dateOf dateAfter
+date-is r first a b u = rw (is-within 1901 first 2072 a b, usable-is r u)
+
+pub date-given :
+    (r : Record) (first : ℕ) (d : Date) →
+    dateOf r first ≡ dated.Given d →
+    (firstYear ≤ first) × (first ≤ lastFirstYear) × Usable r × (dateIn first r ≡ d)
+unfolding dateOf
+date-given r first d e =
+    let a = chosen (within firstYear first lastFirstYear) _ _ _ (not-dated WrongYear d) e in
+    let year = between 1901 first 2072 (a .0) in
+    let u = after-given first d (usableOf r) (a .1) in
+    let w = usable-given r (u .0) (u .1) in
+    (year .0, year .1, rw (← w .0) at (w .1), ap (dateIn first) (w .0) ∙ u .2)

@@ -1,0 +1,56 @@
+-- The days of a year, by month and day and by week and weekday (01, "The calendar").
+-- Assumes nothing.
+use Prim.Native.Nat.{ℕ, zero, suc, _+_, _*_, _-_, _/_, _%_}
+use mathlib.Core.Bool.{Bool, cond}
+use mathlib.Core.List.{List, [], _∷_}
+use lib.Dec.{eqb, leb}
+use lib.ListN.{getD}
+use Rattle.record.specs.declared.Record.{Record}
+use Rattle.record.specs.Ranges.{within}
+use Rattle.calendar.specs.declared.month.MonthDay.{MonthDay}
+use Rattle.calendar.specs.Years.{yearLength}
+
+-- the lengths of the months, January first
+abbrev pub months : Bool → List ℕ
+months leap = 31 ∷ cond leap 29 28 ∷ 31 ∷ 30 ∷ 31 ∷ 30 ∷ 31 ∷ 31 ∷ 30 ∷ 31 ∷ 30 ∷ 31 ∷ []
+
+-- the length of a month from 1 to 12
+abbrev pub monthLength : Bool → ℕ → ℕ
+monthLength leap month = getD (months leap) (month - 1) 0
+
+-- the sum of the first k of some lengths
+unfoldable pub sumOf : ℕ → List ℕ → ℕ
+sumOf zero ns = 0
+sumOf (suc k) [] = 0
+sumOf (suc k) (n ∷ ns) = n + sumOf k ns
+
+-- the day of the year, from 1, of a day of a month
+abbrev pub dayOfMonth : Bool → ℕ → ℕ → ℕ
+dayOfMonth leap month day = sumOf (month - 1) (months leap) + day
+
+abbrev pub monthDay : ℕ → ℕ → MonthDay
+monthDay month day = record { month = month; day = day }
+
+-- the d-th day of months with these lengths, the first of which has the number m; zeros past the last
+unfoldable pub monthFrom : List ℕ → ℕ → ℕ → MonthDay
+monthFrom [] m d = monthDay 0 0
+monthFrom (n ∷ ns) m d = cond (leb d n) (monthDay m d) (monthFrom ns (m + 1) (d - n))
+
+-- Week 1 is the Monday-to-Sunday week that holds 1 January: its Monday lies start day - 1 days before 1 January.
+-- So many days after that Monday is day d of the year
+abbrev pub sinceMonday : ℕ → ℕ → ℕ
+sinceMonday start d = (start - 1) + (d - 1)
+
+abbrev pub weekOf : ℕ → ℕ → ℕ
+weekOf start d = sinceMonday start d / 7 + 1
+
+abbrev pub weekdayOf : ℕ → ℕ → ℕ
+weekdayOf start d = sinceMonday start d % 7 + 1
+
+-- the day of the year that a record names: 7(week - 1) + weekday - start day + 1, and 0 for a day of week 1 before 1 January
+unfoldable pub dayOfYear : Record → ℕ
+dayOfYear r = 7 * (r .week - 1) + r .weekday + 1 - r .«start_day»
+
+-- the year has that day: it has 366 where the leap code is 0, else 365
+unfoldable pub dayInYear : Record → Bool
+dayInYear r = within 1 (dayOfYear r) (yearLength (eqb (r .leap) 0))

@@ -1,0 +1,71 @@
+-- The next minute, of a record (01, "The calendar") and, by itself, of a date.
+-- Assumes nothing.
+use Prim.Native.Nat.{ℕ, _+_, _%_}
+use mathlib.Core.Bool.{cond}
+use lib.Dec.{eqb, ltb}
+use lib.IntN.{ℤ}
+use Rattle.refusal.specs.declared.Refusal.the-variants.{NotInYear}
+use Rattle.record.specs.declared.Record.{Record}
+use Rattle.record.specs.declared.Recorded.{Recorded}
+use Rattle.record.specs.declared.Recorded.the-variants.{Given, Refused}
+use Rattle.calendar.specs.declared.Date.{Date}
+use Rattle.calendar.specs.Years.{leapYear, yearLength, weekdayAfter}
+use Rattle.calendar.specs.Days.{monthLength, dayOfYear}
+use Rattle.calendar.specs.Dates.{newDate, usableOf}
+
+-- ---- of a record
+
+-- another time of the same day
+abbrev pub atTime : ℕ → ℕ → Record → Record
+atTime hour minute r =
+    record { leap = r .leap; «start_day» = r .«start_day»; week = r .week; weekday = r .weekday; hour = hour; minute = minute; offset = r .offset }
+
+-- midnight of a day, the offset carried over
+abbrev pub midnight : ℕ → ℕ → ℕ → ℕ → ℤ → Record
+midnight leap start week weekday offset =
+    record { leap = leap; «start_day» = start; week = week; weekday = weekday; hour = 0; minute = 0; offset = offset }
+
+-- the next day of the same year: the next weekday, or the next week's Monday, of which there are 53
+unfoldable pub nextWeekday : Record → Recorded
+nextWeekday r =
+    cond (ltb (r .weekday) 7) (Given (midnight (r .leap) (r .«start_day») (r .week) (r .weekday + 1) (r .offset)))
+    (cond (ltb (r .week) 53) (Given (midnight (r .leap) (r .«start_day») (r .week + 1) 1 (r .offset))) (Refused NotInYear))
+
+-- the start day goes on by the days of the year
+abbrev pub nextStartDay : Record → ℕ
+nextStartDay r = weekdayAfter (yearLength (eqb (r .leap) 0)) (r .«start_day»)
+
+-- after the last day of the year, 1 January: week 1, on the weekday that is the next year's start day; a record knows no year,
+-- so leap code 3 goes on to 0 from any
+unfoldable pub nextDay : Record → Recorded
+nextDay r =
+    cond (ltb (dayOfYear r) (yearLength (eqb (r .leap) 0))) (nextWeekday r)
+    (Given (midnight ((r .leap + 1) % 4) (nextStartDay r) 1 (nextStartDay r) (r .offset)))
+
+-- the minute goes on, then the hour, then the day
+unfoldable pub goOn : Record → Recorded
+goOn r =
+    cond (ltb (r .minute) 59) (Given (atTime (r .hour) (r .minute + 1) r))
+    (cond (ltb (r .hour) 23) (Given (atTime (r .hour + 1) 0 r)) (nextDay r))
+
+unfoldable pub nextAfter : Recorded → Recorded
+nextAfter (Given r) = goOn r
+nextAfter (Refused why) = Refused why
+
+-- a record that is not usable gets its 6 or 7, then a next day in week 54 gets 7
+unfoldable pub nextMinuteOf : Record → Recorded
+nextMinuteOf r = nextAfter (usableOf r)
+
+-- ---- of a date
+
+-- midnight of the next day: the next day of the month, or the first of the next month, or 1 January of the next year
+unfoldable pub nextDayOfDate : Date → Date
+nextDayOfDate d =
+    cond (ltb (d .day) (monthLength (leapYear (d .year)) (d .month))) (newDate (d .year) (d .month) (d .day + 1) 0 0 (d .offset))
+    (cond (ltb (d .month) 12) (newDate (d .year) (d .month + 1) 1 0 0 (d .offset)) (newDate (d .year + 1) 1 1 0 0 (d .offset)))
+
+-- the minute goes on, then the hour, then the day
+unfoldable pub nextOfDate : Date → Date
+nextOfDate d =
+    cond (ltb (d .minute) 59) (newDate (d .year) (d .month) (d .day) (d .hour) (d .minute + 1) (d .offset))
+    (cond (ltb (d .hour) 23) (newDate (d .year) (d .month) (d .day) (d .hour + 1) 0 (d .offset)) (nextDayOfDate d))

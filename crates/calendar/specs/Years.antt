@@ -1,0 +1,48 @@
+-- Years: which are leap, and the kind of year that a record carries (01, "The time record" and "The calendar").
+-- Assumes nothing.
+use Prim.Native.Nat.{ℕ, zero, suc, _+_, _-_, _%_}
+use mathlib.Core.Bool.{Bool, cond, _&&_}
+use lib.Dec.{eqb}
+
+-- the calendar's fixed numbers: its years are 1901 to 2099, and a record names one of 28 that begin in 1901 to 2072
+abbrev pub firstYear : ℕ
+firstYear = 1901
+
+abbrev pub lastFirstYear : ℕ
+lastFirstYear = 2072
+
+abbrev pub lastYear : ℕ
+lastYear = 2099
+
+abbrev pub span : ℕ
+span = 28
+
+-- the Gregorian rule: a full century is leap where 400 divides it, and any other year where 4 does
+unfoldable pub leapYear : ℕ → Bool
+leapYear y = cond (eqb (y % 100) 0) (eqb (y % 400) 0) (eqb (y % 4) 0)
+
+-- the days of a year
+abbrev pub yearLength : Bool → ℕ
+yearLength leap = cond leap 366 365
+
+-- the days from 1 January 1901 to the 1 January n years later, counted one year after the other
+unfoldable pub daysOfYears : ℕ → ℕ
+daysOfYears zero = 0
+daysOfYears (suc n) = daysOfYears n + yearLength (leapYear (firstYear + n))
+
+-- the weekday n days after a weekday, of 1 (Monday) to 7
+abbrev pub weekdayAfter : ℕ → ℕ → ℕ
+weekdayAfter n weekday = (weekday - 1 + n) % 7 + 1
+
+-- the weekday of 1 January; that of 1901 was a Tuesday
+unfoldable pub startDay : ℕ → ℕ
+startDay y = weekdayAfter (daysOfYears (y - firstYear)) 2
+
+-- 0 in a leap year, 1 in the year after, 3 in the year before: 1901 counts as a year after, and 2099 as one before
+abbrev pub leapCode : ℕ → ℕ
+leapCode y = y % 4
+
+-- the first of the n years from y on that has this start day and leap code; 0 if none has
+unfoldable pub yearFrom : ℕ → ℕ → ℕ → ℕ → ℕ
+yearFrom zero y start leap = 0
+yearFrom (suc n) y start leap = cond (eqb (startDay y) start && eqb (leapCode y) leap) y (yearFrom n (y + 1) start leap)

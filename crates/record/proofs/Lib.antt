@@ -1,0 +1,7 @@
+-- The laws, in reading order: tests, the offset's six bits, the ranges, then what the calls promise together.
+pub mod Tests
+pub mod Offset
+pub mod Bounds
+pub mod RoundTrip
+pub mod OneOfThree
+pub mod Determined
