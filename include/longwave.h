@@ -119,6 +119,61 @@ lw_recorded lw_record_of_date(lw_date date);
  * Refusals, in this order: 6, 7. */
 lw_recorded lw_next_minute(lw_record record);
 
+/* What a receiver is doing. */
+enum {
+    LW_HUNTING = 0, /* judging the last 50 bits at every bit, until they are a good block */
+    LW_TRYING = 1,  /* has one or two good blocks; a bad one makes it hunt again */
+    LW_LOCKED = 2   /* had three good blocks in a row; four bad ones in a row lose the lock */
+};
+
+/* What is known of the time. */
+enum {
+    LW_NO_TIME = 0,
+    LW_CANDIDATE = 1, /* a usable time block came */
+    LW_CONFIRMED = 2  /* it came 30 blocks after the last one and tells the next minute;
+                         the offset may differ */
+};
+
+/* A receiver's state. It belongs to the caller, who may copy it; all zeros are
+ * a fresh one.
+ *
+ * A state is proper when every field has a value given here, the first `waiting`
+ * of `bits` are 0 or 1, and whatever is not in use is 0: the other bits, and
+ * with LW_NO_TIME the whole record and the age. Time is held only when locked,
+ * and its record is usable: fields in range, and a day that is in its year. */
+typedef struct lw_state {
+    uint8_t mode;            /* LW_HUNTING, LW_TRYING or LW_LOCKED */
+    uint8_t good;            /* trying: 1 or 2 good blocks so far; else 0 */
+    uint8_t bad;             /* locked: 0 to 3 bad blocks in a row; else 0 */
+    uint8_t waiting;         /* 0 to 49 bits wait to be judged */
+    uint8_t bits[50];        /* these bits, oldest first */
+    uint8_t time;            /* LW_NO_TIME, LW_CANDIDATE or LW_CONFIRMED */
+    struct lw_record record; /* what the last usable time block told */
+    uint8_t age;             /* 0 to 29 blocks since then */
+} lw_state;
+
+/* What a call did. Unless it was refused with 9 or 10, in which case all counts
+ * are 0: waiting before + bits fed = 50 (good + bad) + passed + waiting. */
+typedef struct lw_counts {
+    uint8_t refusal;
+    uint32_t good;    /* good blocks, used up */
+    uint32_t bad;     /* bad blocks, used up */
+    uint32_t passed;  /* bits passed over while hunting */
+    uint32_t waiting; /* bits waiting at the end */
+} lw_counts;
+
+/* Answers a fresh state: hunting, with nothing waiting and no time. */
+lw_state lw_fresh(void);
+
+/* Feeds one bit, as a run of that bit alone.
+ * Refusals, in this order: 10, 1; the state then stays as it is. */
+lw_counts lw_feed(lw_state *state, uint8_t bit);
+
+/* Feeds up to 65,536 bits, first sent bit first.
+ * Refusals, in this order: 9, 10, and the state then stays as it is; or 1 at a
+ * bit that is none, and state and counts are then those of the bits before it. */
+lw_counts lw_run(lw_state *state, const uint8_t *bits, size_t len);
+
 #ifdef __cplusplus
 }
 #endif

@@ -1,8 +1,10 @@
 //! One call to the library and the same question to the independent program:
 //! answers and every lent byte must agree, and no byte beside them may change.
 
+mod receiver;
 mod record;
 
+pub use receiver::*;
 pub use record::*;
 
 use std::hint::black_box;

@@ -1,7 +1,9 @@
 //! Safe calls to the library, as `include/longwave.h` declares them.
 
+mod receiver;
 mod record;
 
+pub use receiver::*;
 pub use record::*;
 
 /// What was read; the numbers are those of document 01.

@@ -1,10 +1,12 @@
 //! The answers, written from document 01 alone. Here the block, by long division
-//! on one number; the record and the calendar have files of their own.
+//! on one number; the record, the calendar and the receiver have files of
+//! their own.
 //!
 //! A polynomial modulo 2 is a number, one bit for each power of x, and a block
 //! is its fifty bits as one number: bit 49 is the first sent.
 
 pub mod calendar;
+pub mod receiver;
 pub mod record;
 
 use crate::refusals::{NOT_A_BIT, OUT_OF_RANGE, WRONG_CHECK_WORD, WRONG_LENGTH, WRONG_PREFIX};

@@ -2,14 +2,17 @@
 //!
 //! `face` calls the library, `independent` answers from the rules alone, and
 //! `compare` demands that both say the same. `changes` and `slips` list what
-//! can go wrong on the air, `fields` what can be wrong in a caller's values, and
-//! `random` makes runs that can be repeated.
+//! can go wrong on the air, `fields` what can be wrong in a caller's values,
+//! `feeds` sends blocks as a transmitter does, `program` runs a receiver program,
+//! and `random` makes runs that can be repeated.
 
 pub mod changes;
 pub mod compare;
 pub mod face;
+pub mod feeds;
 pub mod fields;
 pub mod independent;
+pub mod program;
 pub mod random;
 pub mod refusals;
 pub mod slips;

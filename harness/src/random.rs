@@ -3,7 +3,7 @@
 use std::env;
 
 use crate::face::{Date, Record};
-use crate::independent::{bits_of, block, BLOCK};
+use crate::independent::{bits_of, block, calendar, BLOCK};
 
 /// The seed: `HARNESS_SEED` if it is set, else a fixed one.
 pub fn seed() -> u64 {
@@ -27,6 +27,11 @@ impl Random {
     /// A stream of its own for each name, so that tests may run in any order.
     pub fn named(name: &str) -> Self {
         Random(name.bytes().fold(seed(), |state, byte| Random(state ^ u64::from(byte)).number()))
+    }
+
+    /// A stream that is the same whatever the seed.
+    pub fn fixed() -> Self {
+        Random(0)
     }
 
     pub fn number(&mut self) -> u64 {
@@ -57,6 +62,15 @@ impl Random {
     pub fn block(&mut self) -> u64 {
         let (code, word) = self.code_and_word();
         block(code, word)
+    }
+
+    /// As many random bits.
+    pub fn bits(&mut self, len: usize) -> Vec<u8> {
+        let numbers = std::iter::repeat_with(|| self.number());
+        numbers
+            .flat_map(|number| (0..64).map(move |place| (number >> place & 1) as u8))
+            .take(len)
+            .collect()
     }
 
     /// A byte that is not a bit.
@@ -96,6 +110,11 @@ impl Random {
             minute: self.between(0, 59),
             offset: self.offset(),
         }
+    }
+
+    /// A record that the receiver can use.
+    pub fn usable_record(&mut self) -> Record {
+        std::iter::repeat_with(|| self.record()).find(calendar::usable).expect("there is no end")
     }
 
     /// A date of 1901 to 2099. Its month may lack its day.

@@ -8,3 +8,5 @@ pub const NOT_A_RECORD: u8 = 5;
 pub const OUT_OF_RANGE: u8 = 6;
 pub const NOT_IN_YEAR: u8 = 7;
 pub const WRONG_YEAR: u8 = 8;
+pub const RUN_TOO_LONG: u8 = 9;
+pub const IMPROPER: u8 = 10;

@@ -17,14 +17,22 @@ pub fn window(pair: Pair, slip: usize) -> u64 {
 }
 
 /// Two blocks whose window at `slip` is a good block, if there are any.
-///
-/// Each of the 72 message bits changes the fault of the window by an amount of
-/// its own, so that elimination finds every fault that can be mended.
 pub fn good_window(slip: usize) -> Option<Pair> {
+    mended(slip, 72, pair_of)
+}
+
+/// A block that, sent twice, has a good window at `slip`, if there is any.
+pub fn good_window_of_repeated(slip: usize) -> Option<(u8, u32)> {
+    mended(slip, 36, |bits| pair_of(bits << 36 | bits)).map(|[first, _]| first)
+}
+
+/// Each message bit changes the fault of the window by an amount of its own, so
+/// that elimination finds every fault that can be mended.
+fn mended(slip: usize, bits: usize, pair_of: impl Fn(u128) -> Pair) -> Option<Pair> {
     let fault_of = |bits| fault(window(pair_of(bits), slip));
     let fixed = fault_of(0);
     let mut basis = Vec::new();
-    for bit in (0..72).map(|place| 1 << place) {
+    for bit in (0..bits).map(|place| 1 << place) {
         let new = reduced(&basis, (fault_of(bit) ^ fixed, bit));
         if new.0 != 0 {
             basis.push(new);

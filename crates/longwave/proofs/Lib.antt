@@ -1,1 +1,3 @@
+pub mod Lending
 pub mod Determined
+pub mod DeterminedLent

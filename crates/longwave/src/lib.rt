@@ -6,6 +6,8 @@ ghost use Rattle.block.specs.Write.{writeOf, writtenOf, refusalOf};
 ghost use Rattle.calendar.specs.Dates.{dateOf, recordOf};
 ghost use Rattle.calendar.specs.NextMinute.{nextMinuteOf};
 ghost use Rattle.longwave.specs.Face.{blockFace, wordFace, recordFace, dateFace};
+ghost use Rattle.receiver.specs.Runs.{fedOf, runOf};
+ghost use Rattle.receiver.specs.States.{freshOf};
 ghost use Rattle.record.specs.Words as words;
 ghost use lib.ListN.{length};
 use block::Choice;
@@ -13,6 +15,8 @@ use block::Read;
 use block::Written;
 use calendar::Date;
 use calendar::Dated;
+use receiver::Counts;
+use receiver::State;
 use record::Record;
 use record::Recorded;
 use record::Worded;
@@ -154,4 +158,32 @@ pub extern "C" fn lw_next_minute(given: Record) -> RecordAnswer
     ensures { λ r. ⌜ r ≡ recordFace (nextMinuteOf given) ⌝ }
 {
     record_answer(calendar::next_minute(given))
+}
+
+// Hunting, with nothing waiting and no time.
+#[no_mangle]
+pub extern "C" fn lw_fresh() -> State
+    ensures { λ s. ⌜ s ≡ freshOf ⌝ }
+{
+    receiver::fresh()
+}
+
+// One bit into the lent state, changed where it stands.
+#[no_mangle]
+pub extern "C" fn lw_feed(state: &mut State, bit: u8) -> Counts
+    ensures { λ r. ⌜ (r ≡ fedOf (now (state .entry)) bit .counts) × (now (state .exit) ≡ fedOf (now (state .entry)) bit .state) ⌝ }
+{
+    let ran = receiver::step(*state, bit);
+    *state = ran.state;
+    ran.counts
+}
+
+// A run of bits into the lent state.
+#[no_mangle]
+pub extern "C" fn lw_run(state: &mut State, bits: &[u8]) -> Counts
+    ensures { λ r. ⌜ (r ≡ runOf (now (state .entry)) (now (bits .entry)) .counts) × (now (state .exit) ≡ runOf (now (state .entry)) (now (bits .entry)) .state) ⌝ }
+{
+    let ran = receiver::run(*state, bits);
+    *state = ran.state;
+    ran.counts
 }

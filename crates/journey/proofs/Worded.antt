@@ -1,0 +1,71 @@
+-- The record of a date is usable, and so is its next minute; a usable record has a word, and its block is a usable time block.
+-- Assumes nothing.
+use Prim.Native.Nat.{_+_, _^_, _≤_, _<_}
+use native.Mathlib.Omega.{arith}
+use mathlib.Core.Path.{_≡_, sym, _∙_}
+use lib.Dec.{ltb}
+use Rattle.block.specs.Read.{readOf}
+use Rattle.block.proofs.RoundTrip.{read-back}
+use Rattle.record.specs.declared.Record.{Record}
+use Rattle.record.specs.declared.Recorded.the-variants as recorded
+use Rattle.record.specs.declared.Worded.the-variants as worded
+use Rattle.record.specs.Fields.{wordOf}
+use Rattle.record.specs.Words.{writtenOf}
+use Rattle.record.proofs.Offset.{six-fits}
+use Rattle.record.proofs.Bounds.{Bounds, bounds}
+use Rattle.record.proofs.RoundTrip.{written-reads}
+use Rattle.calendar.specs.declared.Date.{Date}
+use Rattle.calendar.specs.Days.{monthLength}
+use Rattle.calendar.specs.Years.{leapYear}
+use Rattle.calendar.specs.Dates.{dateIn, recordOf}
+use Rattle.calendar.specs.NextMinute.{nextMinuteOf, nextDayOfDate, nextOfDate}
+use Rattle.calendar.proofs.OneYear.{one}
+use Rattle.calendar.proofs.Answers.{Usable, usable-is, record-given, date-is}
+use Rattle.calendar.proofs.RoundTrip.{recorded-usable}
+use Rattle.calendar.proofs.Stepping.{next-of-record}
+use Rattle.receiver.specs.Times.{usableIn}
+use Rattle.receiver.proofs.Choices.{cond-elim}
+use Rattle.journey.specs.Journey.{timeBlock}
+
+-- ---- usable
+
+pub date-usable : (d : Date) (r : Record) → recordOf d ≡ recorded.Given r → Usable r
+date-usable d r e = let g = record-given d r e in rw (g .2) at (recorded-usable d (g .0) (g .1))
+
+-- the next minute is in the same year or in the next
+pub year-on : (d : Date) → (d .year ≤ nextOfDate d .year) × (nextOfDate d .year ≤ d .year + 1)
+unfolding nextOfDate nextDayOfDate
+year-on d =
+    let P : Date → Type 0 = λ n. (d .year ≤ n .year) × (n .year ≤ d .year + 1) in
+    let same : (d .year ≤ d .year) × (d .year ≤ d .year + 1) = (omega arith, omega arith) in
+    cond-elim P (ltb (d .minute) 59) (λ _. same)
+    (λ _.
+    cond-elim P (ltb (d .hour) 23) (λ _. same)
+    (λ _.
+    cond-elim P (ltb (d .day) (monthLength (leapYear (d .year)) (d .month))) (λ _. same)
+    (λ _. cond-elim P (ltb (d .month) 12) (λ _. same) (λ _. (omega arith, omega arith)))))
+
+-- a record knows no year: the one of 1901 to 1928 that it could be of is far from the calendar's end
+pub next-usable : (r n : Record) → Usable r → nextMinuteOf r ≡ recorded.Given n → Usable n
+unfolding dateIn
+next-usable r n u e =
+    let b : Bounds r = bounds r (u .in-range) in
+    let d : Date = dateIn 1901 r in
+    let y = one 1901 (r .«start_day») (r .leap) (omega arith) (omega arith) (b .start-day .0) (b .start-day .1) (b .leap) in
+    date-usable (nextOfDate d) n
+    (sym (next-of-record r 1901 d (date-is r 1901 (omega arith) (omega arith) u) (omega (arith, year-on d .1, y .to))) ∙ e)
+
+-- ---- the word and the block
+
+module _ (r : Record) (u : Usable r) where
+  pub has-word : writtenOf r ≡ worded.Given (wordOf r)
+  unfolding writtenOf
+  has-word = rw (u .in-range)
+
+  pub word-fits : wordOf r < 2 ^ 32
+  unfolding wordOf
+  word-fits = let b : Bounds r = bounds r (u .in-range) in omega (arith, six-fits (r .offset) (b .time .offset-in))
+
+  pub block-usable : usableIn (readOf (timeBlock r)) ≡ recorded.Given r
+  unfolding usableIn
+  block-usable = rw (read-back 0 (wordOf r) (omega arith) word-fits, written-reads r (wordOf r) has-word) (usable-is r u)

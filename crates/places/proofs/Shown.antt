@@ -1,0 +1,36 @@
+-- Each place computes from the definitions.
+-- Assumes nothing.
+use mathlib.Core.Path.{refl}
+use Rattle.block.specs.Bits.{bitsOf, valueFrom}
+use Rattle.block.specs.Block.{blockOf, bodyOf}
+use Rattle.block.specs.Division.{remainderFrom}
+use Rattle.block.specs.Read as block
+use Rattle.block.proofs.RoundTrip.{written-good}
+use Rattle.record.specs.Fields.{offsetOf, fieldsOf}
+use Rattle.record.specs.Ranges.{inRange, kindInRange, dayInRange, timeInRange, offsetInRange}
+use Rattle.record.specs.Words as words
+use Rattle.calendar.specs.Years.{leapYear, daysOfYears, startDay, yearFrom}
+use Rattle.calendar.specs.Days.{sumOf, monthFrom, dayOfYear, dayInYear}
+use Rattle.calendar.specs.Dates.{usableOf, dateIn, dateAfter, dateOf, dateInRange, recordAt, recordOf}
+use Rattle.calendar.specs.NextMinute.{nextWeekday, nextDay, goOn, nextAfter, nextMinuteOf}
+use Rattle.places.specs.Places.{Places}
+
+pub places : Places
+unfolding bitsOf valueFrom remainderFrom blockOf bodyOf block.readOf words.readOf fieldsOf offsetOf inRange kindInRange dayInRange timeInRange offsetInRange leapYear daysOfYears startDay yearFrom sumOf monthFrom dayOfYear dayInYear usableOf dateIn dateAfter dateOf dateInRange recordAt recordOf nextWeekday nextDay goOn nextAfter nextMinuteOf
+places =
+    record {
+      empty = (refl, written-good 0 0, refl);
+      word-one = refl;
+      word-two = refl;
+      word-three = refl;
+      all-zeros = refl;
+      last-changed = refl;
+      new-year = refl;
+      ahead = refl;
+      behind = refl;
+      minute-sixty = refl;
+      filler = refl;
+      last-sunday = refl;
+      week-54 = refl;
+      next-year = (refl, refl);
+    }

@@ -1,0 +1,53 @@
+-- Waiting before + bits fed = 50(good + bad) + passed + waiting after: every step balances, so a run does.
+-- Assumes nothing.
+use Prim.Native.Nat.{ℕ, _+_, _*_, _<_}
+use native.Mathlib.Omega.{arith}
+use mathlib.Core.Path.{_≡_, refl}
+use mathlib.Core.List.{List, [], _∷_}
+use lib.Dec.{ltb}
+use lib.ListN.{length}
+use Rattle.block.specs.Read.{readOf}
+use Rattle.receiver.specs.declared.Judged.{Judged}
+use Rattle.receiver.specs.declared.Ran.{Ran}
+use Rattle.receiver.specs.declared.State.{State}
+use Rattle.receiver.specs.States.{lockIn, properOf}
+use Rattle.receiver.specs.Steps.{Step, stepOf}
+use Rattle.receiver.specs.Runs.{runFrom, runOf}
+use Rattle.receiver.specs.History.{bitsBefore}
+use Rattle.receiver.proofs.Choices.{cond-elim, judged-elim, filled, judges, step-elim}
+use Rattle.receiver.proofs.Small.{step-small}
+use Rattle.receiver.proofs.StaysProper.{room}
+
+-- what a step counts and leaves waiting makes up n bits
+abbrev MadeUp : ℕ → Step → Type 0
+MadeUp n t = n ≡ 50 * (t .good + t .bad) + t .passed + t .next .waiting
+
+pub step-balance : (s : State) (b : ℕ) → s .waiting < 50 → MadeUp (s .waiting + 1) (stepOf s b)
+step-balance s b h =
+    step-elim (MadeUp (s .waiting + 1)) s b (λ _. omega arith)
+    (λ full.
+    let e : s .waiting + 1 ≡ 50 = omega arith in
+    rw e (judged-elim (λ (j : Judged). MadeUp 50 (judges (filled s b) j)) (lockIn s) (readOf (filled s b)) (λ _. refl) (λ _. refl) refl))
+
+-- so for a run
+abbrev Balanced : ℕ → Ran → Type 0
+Balanced n r = n ≡ 50 * (r .counts .good + r .counts .bad) + r .counts .passed + r .counts .waiting
+
+from-balance : (bs : List ℕ) (good bad passed : ℕ) (s : State) → s .waiting < 50
+    → Balanced (s .waiting + length (bitsBefore bs) + 50 * (good + bad) + passed) (runFrom bs good bad passed s)
+unfolding runFrom bitsBefore
+from-balance [] good bad passed s h = omega arith
+from-balance (b ∷ bs) good bad passed s h =
+    let t : Step = stepOf s b in
+    cond-elim (Balanced (s .waiting + length (bitsBefore (b ∷ bs)) + 50 * (good + bad) + passed)) (ltb b 2)
+    (λ e. rw e (omega (arith, step-balance s b h, from-balance bs (good + t .good) (bad + t .bad) (passed + t .passed) (t .next) (step-small s b .room))))
+    (λ e. rw e (omega arith))
+
+-- unless the run is refused with 9 or 10, what waited and what was fed balance with what it counts
+pub balance : (s : State) (bs : List ℕ) → (runOf s bs .counts .refusal ≡ 9 → ⊥) → (runOf s bs .counts .refusal ≡ 10 → ⊥)
+    → Balanced (s .waiting + length (bitsBefore bs)) (runOf s bs)
+unfolding runOf
+balance s bs =
+    let P : Ran → Type 0 = λ r. (r .counts .refusal ≡ 9 → ⊥) → (r .counts .refusal ≡ 10 → ⊥) → Balanced (s .waiting + length (bitsBefore bs)) r in
+    cond-elim P (ltb 65536 (length bs)) (λ _ long _. absurd (long refl))
+    (λ _. cond-elim P (properOf s) (λ e _ _. omega (arith, from-balance bs 0 0 0 s (room s e))) (λ _ _ improper. absurd (improper refl)))

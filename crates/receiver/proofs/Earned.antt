@@ -1,0 +1,186 @@
+-- Confirmed is earned: each step keeps, begins or ends what in the history the held time comes from.
+-- Assumes nothing.
+use Prim.Native.Nat.{ℕ, _+_, _*_, _≤_, _<_}
+use native.Mathlib.Omega.{arith}
+use mathlib.Core.Path.{_≡_, refl, sym, ap, _∙_}
+use mathlib.Core.Bool.{true, _&&_}
+use mathlib.Core.List.{List, [], _∷_, _++_, append-nil}
+use borrow.Author.Tests.{eqb-true, eqb-false}
+use lib.Dec.{eqb, leb}
+use lib.ListN.{length}
+use lib.Seq.{append-snoc, take-all, take-length}
+use Rattle.block.specs.Bits.{zeros}
+use Rattle.block.specs.Read.{readOf}
+use Rattle.record.specs.declared.Record.{Record}
+use Rattle.record.specs.declared.Recorded.{Recorded}
+use Rattle.record.specs.declared.Recorded.the-variants.{Given, Refused}
+use Rattle.record.proofs.Tests.{both}
+use Rattle.receiver.specs.declared.Judged.{Judged}
+use Rattle.receiver.specs.declared.State.{State}
+use Rattle.receiver.specs.declared.Time.{Time}
+use Rattle.receiver.specs.States.{locked, none, candidate, confirmed, timeOf, noTime, lockOf, stateOf, lockIn, freshOf}
+use Rattle.receiver.specs.Times.{follows, renewedBy, agedBy, offeredTo}
+use Rattle.receiver.specs.Modes.{heldOn}
+use Rattle.receiver.specs.Steps.{Step, stepOf}
+use Rattle.receiver.specs.History.{ranAll, fedAll, afterFrom, after, TimeBlock, HeldFrom, Held, Earned}
+use Rattle.receiver.proofs.Choices.{cond-elim, held-elim, unlocked-elim, filled, judges, step-elim}
+use Rattle.receiver.proofs.WholeHistory.{after-append, runs-after}
+use Rattle.receiver.proofs.EndOfHistory.{_▹_, length-more, block-more, locked-more, Waiting, waiting-more, block-now}
+
+-- what a state's time comes from, where it holds one
+record Evidence (l : List ℕ) (s : State) : Type 0 where
+  held : (s .time ≡ none → ⊥) → Held l s
+  earned : s .time ≡ confirmed → Earned l s
+
+no-evidence : (l : List ℕ) (s : State) → s .time ≡ none → Evidence l s
+no-evidence l s e = record { held = λ h. absurd (h e); earned = λ c. absurd (omega arith) }
+
+held-locked-now : (l : List ℕ) (s : State) → Held l s → after l .mode ≡ locked
+held-locked-now l s h = rw take-length at (h .unbroken (length l) (omega (arith, h .from .aged)) (omega arith))
+
+-- a locked state whose last block is used up
+abbrev lockedWith : ℕ → Time → State
+lockedWith bad t = stateOf (lockOf locked 0 bad t) 0 (zeros 50)
+
+module _ (l : List ℕ) (b : ℕ) (s : State) (v : Evidence l s) where
+  -- ---- the time is kept for one bit more
+
+  module _ (next : State) (kind : next .time ≡ s .time) (same : next .held ≡ s .held) (older : 50 * next .age + next .waiting ≡ 50 * s .age + s .waiting + 1)
+      (room : next .waiting < 50) (now : (s .time ≡ none → ⊥) → after (l ▹ b) .mode ≡ locked) where
+    from-more : {n : ℕ} → HeldFrom l s n → HeldFrom (l ▹ b) next n
+    from-more f = record { block = rw same (block-more l b (f .block)); aged = omega (arith, length-more l b, f .aged); room = room }
+
+    held-more : (next .time ≡ none → ⊥) → Held (l ▹ b) next
+    held-more h =
+        let k = v .held (λ e. h (kind ∙ e)) in
+        record { n = k .n; from = from-more (k .from); unbroken = locked-more l b (k .unbroken) (now (λ e. h (kind ∙ e))) }
+
+    earned-more : next .time ≡ confirmed → Earned (l ▹ b) next
+    earned-more c =
+        let k = v .earned (sym kind ∙ c) in
+        record {
+          n = k .n;
+          earlier = k .earlier;
+          block = block-more l b (k .block);
+          from = from-more (k .from);
+          next = rw same (k .next);
+          unbroken = locked-more l b (k .unbroken) (now (λ e. omega arith));
+        }
+
+    kept : Evidence (l ▹ b) next
+    kept = record { held = held-more; earned = earned-more }
+
+  -- ---- a block that ends now is offered to the time
+
+  module _ (bad : ℕ) (full : s .waiting ≡ 49) (now : after (l ▹ b) .mode ≡ locked) where
+    abbrev Offered : Time → Type 0
+    Offered t = Evidence (l ▹ b) (lockedWith bad t)
+
+    -- a time begins with the block's record, confirmed only where the block was the right one
+    module _ (k : ℕ) (r : Record) (block : TimeBlock (l ▹ b) (length (l ▹ b)) r)
+        (earns : k ≡ confirmed → (s .time ≡ none → ⊥) × (s .age + 1 ≡ 30) × (follows (s .held) r ≡ true)) where
+      from-now : {n : ℕ} → length (l ▹ b) ≡ n → HeldFrom (l ▹ b) (lockedWith bad (timeOf k r 0)) n
+      from-now e = record { block = rw e at block; aged = omega arith; room = omega arith }
+
+      earned-now : k ≡ confirmed → Earned (l ▹ b) (lockedWith bad (timeOf k r 0))
+      earned-now c =
+          let e = earns c in
+          let h = v .held (e .0) in
+          record {
+            n = h .n;
+            earlier = s .held;
+            block = block-more l b (h .from .block);
+            from = from-now (omega (arith, length-more l b, h .from .aged, e .1));
+            next = e .2;
+            unbroken = locked-more l b (h .unbroken) now;
+          }
+
+      begun : Offered (timeOf k r 0)
+      begun =
+          record {
+            held = λ _. record { n = length (l ▹ b); from = from-now refl; unbroken = λ m from to. rw (take-all m (l ▹ b) from) now };
+            earned = earned-now;
+          }
+
+    renewed : (r : Record) → TimeBlock (l ▹ b) (length (l ▹ b)) r → Offered (renewedBy (lockIn s .time) r)
+    unfolding renewedBy
+    renewed r block =
+        let new : Offered (timeOf candidate r 0) = begun candidate r block (λ c. absurd (omega arith)) in
+        cond-elim (λ (k : ℕ). Offered (timeOf k r 0)) (eqb (s .time) none) (λ _. new)
+        (λ held.
+        cond-elim (λ (k : ℕ). Offered (timeOf k r 0)) (eqb (s .age + 1) 30 && follows (s .held) r)
+        (λ e.
+        let c = both (eqb (s .age + 1) 30) _ e in
+        begun confirmed r block (λ _. (eqb-false (s .time) none held, eqb-true (s .age + 1) 30 (c .0), c .1)))
+        (λ _. new))
+
+    older : Offered (agedBy (lockIn s .time))
+    unfolding agedBy
+    older =
+        let nothing : Offered noTime = no-evidence _ _ refl in
+        cond-elim Offered (eqb (s .time) none) (λ _. nothing)
+        (λ _. cond-elim Offered (leb 30 (s .age + 1)) (λ _. nothing) (λ _. kept _ refl refl (omega arith) (omega arith) (λ _. now)))
+
+    offered : (u : Recorded) → ((r : Record) → u ≡ Given r → TimeBlock (l ▹ b) (length (l ▹ b)) r) → Offered (offeredTo (lockIn s .time) u)
+    unfolding offeredTo
+    offered (Given r) block = renewed r (block r refl)
+    offered (Refused why) block = older
+
+-- ---- every step
+
+abbrev mode-of : {s t : State} → s ≡ t → s .mode ≡ t .mode
+mode-of e = ap (λ (s : State). s .mode) e
+
+module _ (l : List ℕ) (b : ℕ) (s : State) (p : Waiting l s) (v : Evidence l s) where
+  -- what a step leads to, where it is the one taken
+  abbrev Evident : Step → Type 0
+  Evident t = after (l ▹ b) ≡ t .next → Evidence (l ▹ b) (t .next)
+
+  held-evident : 49 ≤ s .waiting → Evident (judges (filled s b) (heldOn (s .bad) (lockIn s .time) (readOf (filled s b))))
+  held-evident h =
+      let full : s .waiting ≡ 49 = omega arith in
+      let blocks = block-now l b s p h in
+      held-elim (λ (j : Judged). Evident (judges (filled s b) j)) (s .bad) _ (readOf (filled s b)) (λ e. offered l b s v 0 full (mode-of e) _ blocks)
+      (λ _. no-evidence _ _ refl) (λ _ e. offered l b s v (s .bad + 1) full (mode-of e) _ blocks)
+
+  evident : after l ≡ s → Evident (stepOf s b)
+  evident here =
+      step-elim Evident s b (λ few e. kept l b s v _ refl refl (omega arith) (omega arith) (λ h. mode-of e ∙ sym (mode-of here) ∙ held-locked-now l s (v .held h)))
+      (λ h.
+      unlocked-elim (λ (j : Judged). Evident (judges (filled s b) j)) (lockIn s) (readOf (filled s b)) (λ j e _. no-evidence _ _ e) (held-evident h))
+
+-- ---- every history
+
+record Known (l : List ℕ) : Type 0 where
+  waiting : Waiting l (after l)
+  evidence : Evidence l (after l)
+
+known-more : (l : List ℕ) (b : ℕ) → Known l → Known (l ▹ b)
+unfolding afterFrom
+known-more l b k =
+    let e : after (l ▹ b) ≡ stepOf (after l) b .next = after-append freshOf l (b ∷ []) in
+    record { waiting = rw e (waiting-more l b (after l) (k .waiting)); evidence = rw e (evident l b (after l) (k .waiting) (k .evidence) refl e) }
+
+known-on : (l rest : List ℕ) → Known l → Known (l ++ rest)
+known-on l [] k = rw append-nil k
+known-on l (b ∷ rest) k = rw (← append-snoc l b rest) (known-on (l ▹ b) rest (known-more l b k))
+
+known : (l : List ℕ) → Known l
+unfolding afterFrom freshOf
+known l = known-on [] l (record { waiting = record { places = refl; room = omega arith; ends = ([], refl) }; evidence = no-evidence [] _ refl })
+
+-- a held time comes from a usable time block, as many whole blocks ago as its age, and lock was not lost since
+pub held-is-read : (l : List ℕ) → (after l .time ≡ none → ⊥) → Held l (after l)
+held-is-read l = known l .evidence .held
+
+-- after any bits, a time is held only when locked
+pub held-is-locked : (l : List ℕ) → (after l .time ≡ none → ⊥) → after l .mode ≡ locked
+held-is-locked l h = held-locked-now l (after l) (held-is-read l h)
+
+-- whatever was fed, a confirmed time was earned
+pub confirmed-is-earned : (l : List ℕ) → after l .time ≡ confirmed → Earned l (after l)
+confirmed-is-earned l = known l .evidence .earned
+
+-- the same of the runs that were called, whatever they held and were refused with
+pub runs-earned : (runs : List (List ℕ)) → ranAll freshOf runs .time ≡ confirmed → Earned (fedAll runs) (ranAll freshOf runs)
+runs-earned runs = rw (runs-after runs) (confirmed-is-earned (fedAll runs))

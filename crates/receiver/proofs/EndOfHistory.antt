@@ -1,0 +1,95 @@
+-- What waits is the end of the history, so the window that a bit fills is that of its last fifty bits; and what the history
+-- held before a bit it holds after it.
+-- Assumes nothing.
+use Prim.Native.Nat.{ℕ, _+_, _-_, _≤_, _<_}
+use native.Mathlib.Omega.{arith}
+use native.Mathlib.Numerals.{add-one}
+use mathlib.Core.Path.{_≡_, sym, ap, _∙_}
+use mathlib.Core.List.{List, [], _∷_, _++_, append-assoc, append-nil}
+use mathlib.Core.Logic.{⊎-elim}
+use lib.ListN.{length, take, drop, length-append, length-drop, take-append-drop}
+use lib.Seq.{take-all, take-append-le, drop-append-le, take-suc-set, take-at, drop-at}
+use Rattle.block.specs.Read.{readOf}
+use Rattle.record.specs.declared.Record.{Record}
+use Rattle.record.specs.declared.Recorded.the-variants.{Given}
+use Rattle.record.proofs.Tests.{le-or-lt}
+use Rattle.receiver.specs.declared.Judged.{Judged}
+use Rattle.receiver.specs.declared.State.{State}
+use Rattle.receiver.specs.States.{locked, lockIn}
+use Rattle.receiver.specs.Times.{usableIn}
+use Rattle.receiver.specs.Steps.{Step, waitingAfter, bitsAfter, stepOf}
+use Rattle.receiver.specs.History.{after, windowTo, TimeBlock, LockedSince}
+use Rattle.receiver.proofs.Choices.{judged-elim, filled, step-elim}
+use Rattle.receiver.proofs.Small.{step-small, filled-places, step-places}
+
+-- a history and then one bit more
+infixl 20 _▹_
+abbrev pub _▹_ : List ℕ → ℕ → List ℕ
+l ▹ b = l ++ b ∷ []
+
+module _ (l : List ℕ) (b : ℕ) where
+  pub length-more : length (l ▹ b) ≡ length l + 1
+  length-more = length-append l (b ∷ [])
+
+  window-more : (n : ℕ) → 50 ≤ n → n ≤ length l → windowTo n (l ▹ b) ≡ windowTo n l
+  window-more n h k =
+      ap (take 50) (drop-append-le (n - 50) l (b ∷ []) (omega arith))
+      ∙ take-append-le 50 (drop (n - 50) l) (b ∷ []) (omega (arith, length-drop (n - 50) l))
+
+  pub block-more : {n : ℕ} {r : Record} → TimeBlock l n r → TimeBlock (l ▹ b) n r
+  block-more {n} t = record { from = t .from; to = omega (arith, length-more); reads = rw (window-more n (t .from) (t .to)) (t .reads) }
+
+  pub locked-more : {n : ℕ} → LockedSince l n → after (l ▹ b) .mode ≡ locked → LockedSince (l ▹ b) n
+  locked-more since now m from to =
+      ⊎-elim (λ h. rw (take-append-le m l (b ∷ []) h) (since m from h))
+      (λ h. rw (take-all m (l ▹ b) (omega (arith, length-more))) now) (le-or-lt m (length l))
+
+-- the history ends with the first of these bits, as many as wait
+abbrev pub Ends : List ℕ → ℕ → List ℕ → Type 0
+Ends l waiting bits = (before : List ℕ) × (l ≡ before ++ take waiting bits)
+
+pub record Waiting (l : List ℕ) (s : State) : Type 0 where
+  pub places : length (s .bits) ≡ 50
+  pub room : s .waiting < 50
+  pub ends : Ends l (s .waiting) (s .bits)
+
+-- the oldest of fifty bits is passed over
+ends-on : (before w : List ℕ) → length w ≡ 50 → Ends (before ++ w) 49 (drop 1 w ++ 0 ∷ [])
+ends-on before w h =
+    (before ++ take 1 w, rw (take-at (drop 1 w) (0 ∷ []) 49 (omega (arith, length-drop 1 w)), append-assoc, take-append-drop))
+
+module _ (l : List ℕ) (b : ℕ) (s : State) (p : Waiting l s) where
+  places-more : length (filled s b) ≡ 50
+  places-more = filled-places s b (p .places)
+
+  ends-more : l ▹ b ≡ p .ends .0 ++ take (s .waiting + 1) (filled s b)
+  ends-more =
+      rw (add-one (s .waiting), take-suc-set (s .bits) (s .waiting) b (omega arith), ← append-assoc) (ap (λ (k : List ℕ). k ▹ b) (p .ends .1))
+
+  ends-full : 49 ≤ s .waiting → l ▹ b ≡ p .ends .0 ++ filled s b
+  ends-full h = ends-more ∙ ap (λ (k : List ℕ). p .ends .0 ++ k) (take-all (s .waiting + 1) (filled s b) (omega (arith, places-more)))
+
+  step-ends : Ends (l ▹ b) (stepOf s b .next .waiting) (stepOf s b .next .bits)
+  step-ends =
+      let used : Ends (l ▹ b) 0 [] = (l ▹ b, sym (append-nil (l ▹ b))) in
+      step-elim (λ (t : Step). Ends (l ▹ b) (t .next .waiting) (t .next .bits)) s b (λ _. (p .ends .0, ends-more))
+      (λ h.
+      judged-elim (λ (j : Judged). Ends (l ▹ b) (waitingAfter j) (bitsAfter j (filled s b))) (lockIn s) (readOf (filled s b)) (λ _. used) (λ _. used)
+      (rw (ends-full h) (ends-on (p .ends .0) (filled s b) places-more)))
+
+  pub waiting-more : Waiting (l ▹ b) (stepOf s b .next)
+  waiting-more = record { places = step-places s b (p .places); room = step-small s b .room; ends = step-ends }
+
+  -- the full window ends now
+  module _ (h : 49 ≤ s .waiting) where
+    length-full : length (l ▹ b) ≡ length (p .ends .0) + 50
+    length-full = ap length (ends-full h) ∙ omega (arith, length-append (p .ends .0) (filled s b), places-more)
+
+    window-now : windowTo (length (l ▹ b)) (l ▹ b) ≡ filled s b
+    window-now =
+        ap (λ (k : List ℕ). take 50 (drop (length (l ▹ b) - 50) k)) (ends-full h)
+        ∙ ap (take 50) (drop-at (p .ends .0) (filled s b) (length (l ▹ b) - 50) (omega (arith, length-full)))
+        ∙ take-all 50 (filled s b) (omega (arith, places-more))
+
+    pub block-now : (r : Record) → usableIn (readOf (filled s b)) ≡ Given r → TimeBlock (l ▹ b) (length (l ▹ b)) r
+    block-now r e = record { from = omega (arith, length-full); to = omega arith; reads = rw window-now e }

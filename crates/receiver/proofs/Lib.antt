@@ -1,0 +1,13 @@
+-- The laws, in reading order.
+pub mod Choices
+pub mod Small
+pub mod StaysProper
+pub mod Balance
+pub mod Together
+pub mod LostLock
+pub mod WholeHistory
+pub mod EndOfHistory
+pub mod Earned
+pub mod Confirms
+pub mod Running
+pub mod Determined

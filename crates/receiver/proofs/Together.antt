@@ -1,0 +1,99 @@
+-- Runs one after the other are one run: the steps go on from the state reached, and the counts add up.
+-- Assumes nothing.
+use Prim.Native.Nat.{ℕ, _+_, _≤_}
+use native.Mathlib.Nat.{add-assoc, add-zero, zero-add}
+use native.Mathlib.Omega.{arith}
+use mathlib.Core.Path.{_≡_, refl, sym, ap, _∙_}
+use mathlib.Core.Bool.{true}
+use mathlib.Core.List.{List, [], _∷_, _++_}
+use borrow.Author.Tests.{lt-ltb, le-ltb}
+use lib.Dec.{ltb}
+use lib.ListN.{length, length-append}
+use Rattle.block.specs.Bits.{Bits}
+use Rattle.receiver.specs.declared.Ran.{Ran}
+use Rattle.receiver.specs.declared.State.{State}
+use Rattle.receiver.specs.States.{properOf}
+use Rattle.receiver.specs.Steps.{Step, stepOf}
+use Rattle.receiver.specs.Runs.{countsOf, runFrom, runOf, fedOf}
+use Rattle.receiver.proofs.Choices.{cond-elim}
+use Rattle.receiver.proofs.StaysProper.{Proper, run-proper}
+
+-- one fed bit answers as a run of that bit alone
+pub fed-run : (s : State) (b : ℕ) → fedOf s b ≡ runOf s (b ∷ [])
+unfolding fedOf runOf runFrom
+fed-run s b = simp zero-add
+
+-- ---- the counts
+
+-- a run with more counted before it
+abbrev pub counted : ℕ → ℕ → ℕ → Ran → Ran
+counted good bad passed r =
+    record {
+      counts = countsOf (r .counts .refusal) (good + r .counts .good) (bad + r .counts .bad) (passed + r .counts .passed) (r .counts .waiting);
+      state = r .state;
+    }
+
+from-counted : (bs : List ℕ) (g b p good bad passed : ℕ) (s : State) → runFrom bs (g + good) (b + bad) (p + passed) s ≡ counted g b p (runFrom bs good bad passed s)
+unfolding runFrom
+from-counted [] g b p good bad passed s = refl
+from-counted (x ∷ bs) g b p good bad passed s =
+    let t : Step = stepOf s x in
+    cond-elim (λ (r : Ran). runFrom (x ∷ bs) (g + good) (b + bad) (p + passed) s ≡ counted g b p r) (ltb x 2)
+    (λ e. rw (e, add-assoc g good (t .good), add-assoc b bad (t .bad), add-assoc p passed (t .passed)) (from-counted bs g b p _ _ _ (t .next)))
+    (λ e. rw e)
+
+-- ---- two strings
+
+-- a run of bits is not refused, and its count of those waiting is the state's
+from-bits : (xs : List ℕ) (good bad passed : ℕ) (s : State) → Bits xs
+    → (runFrom xs good bad passed s .counts .refusal ≡ 0) × (runFrom xs good bad passed s .counts .waiting ≡ runFrom xs good bad passed s .state .waiting)
+unfolding runFrom
+from-bits [] good bad passed s h = (refl, refl)
+from-bits (x ∷ xs) good bad passed s h = rw (lt-ltb x 2 (h .0)) (from-bits xs _ _ _ (stepOf s x .next) (h .1))
+
+-- a run goes on with ys
+abbrev onwards : List ℕ → Ran → Ran
+onwards ys r = runFrom ys (r .counts .good) (r .counts .bad) (r .counts .passed) (r .state)
+
+from-append : (xs ys : List ℕ) (good bad passed : ℕ) (s : State) → Bits xs → runFrom (xs ++ ys) good bad passed s ≡ onwards ys (runFrom xs good bad passed s)
+unfolding runFrom
+from-append [] ys good bad passed s h = refl
+from-append (x ∷ xs) ys good bad passed s h = rw (lt-ltb x 2 (h .0)) (from-append xs ys _ _ _ (stepOf s x .next) (h .1))
+
+onwards-counted : (ys : List ℕ) (r : Ran) → onwards ys r ≡ counted (r .counts .good) (r .counts .bad) (r .counts .passed) (runFrom ys 0 0 0 (r .state))
+onwards-counted ys r = simp add-zero at (from-counted ys (r .counts .good) (r .counts .bad) (r .counts .passed) 0 0 0 (r .state))
+
+-- a run within the limit, from a proper state
+pub run-is : (s : State) (bs : List ℕ) → length bs ≤ 65536 → properOf s ≡ true → runOf s bs ≡ runFrom bs 0 0 0 s
+unfolding runOf
+run-is s bs h e = rw (le-ltb 65536 (length bs) h, e)
+
+-- a run with its refusal changed to 1
+abbrev pub stopped : Ran → Ran
+stopped r = record { counts = countsOf 1 (r .counts .good) (r .counts .bad) (r .counts .passed) (r .counts .waiting); state = r .state }
+
+module _ (s : State) (xs ys : List ℕ) (p : Proper s) (h : Bits xs) (limit : length (xs ++ ys) ≤ 65536) where
+  first-is : runOf s xs ≡ runFrom xs 0 0 0 s
+  first-is = run-is s xs (omega (arith, length-append xs ys)) (p .proper)
+
+  both-are : runOf s (xs ++ ys) ≡ onwards ys (runOf s xs)
+  both-are = run-is s (xs ++ ys) limit (p .proper) ∙ from-append xs ys 0 0 0 s h ∙ ap (onwards ys) (sym first-is)
+
+  -- the run of bits is not refused
+  pub first-taken : runOf s xs .counts .refusal ≡ 0
+  first-taken = rw first-is (from-bits xs 0 0 0 s h .0)
+
+  -- a run of two strings is the run of the first and then of the second, with the counts of both
+  pub together : runOf s (xs ++ ys) ≡ counted (runOf s xs .counts .good) (runOf s xs .counts .bad) (runOf s xs .counts .passed) (runOf (runOf s xs .state) ys)
+  together =
+      let q : Proper (runOf s xs .state) = run-proper s xs p in
+      both-are ∙ onwards-counted ys (runOf s xs)
+      ∙ ap (counted (runOf s xs .counts .good) (runOf s xs .counts .bad) (runOf s xs .counts .passed))
+      (sym (run-is (runOf s xs .state) ys (omega (arith, length-append xs ys)) (q .proper)))
+
+-- a run refused with 1 is the run of the bits before the bad one
+pub before-bad : (s : State) (xs : List ℕ) (b : ℕ) (ys : List ℕ) → Proper s → Bits xs → 2 ≤ b → length (xs ++ b ∷ ys) ≤ 65536 → runOf s (xs ++ b ∷ ys) ≡ stopped (runOf s xs)
+unfolding runFrom
+before-bad s xs b ys p h bad limit =
+    both-are s xs (b ∷ ys) p h limit
+    ∙ rw (le-ltb b 2 bad, first-is s xs (b ∷ ys) p h limit, from-bits xs 0 0 0 s h .1)

@@ -1,0 +1,80 @@
+-- Runs one after the other leave the state of the whole history that they fed, each step going on from the last.
+-- Assumes nothing.
+use Prim.Native.Nat.{ℕ, _≤_}
+use mathlib.Core.Path.{_≡_, refl, sym, ap, _∙_}
+use mathlib.Core.Bool.{true}
+use mathlib.Core.List.{List, [], _∷_, _++_}
+use borrow.Author.Tests.{ltb-true, lt-ltb, le-ltb}
+use lib.Dec.{ltb}
+use lib.ListN.{length}
+use Rattle.block.specs.Bits.{Bits}
+use Rattle.block.proofs.Strings.{bits-append}
+use Rattle.receiver.specs.declared.Ran.{Ran}
+use Rattle.receiver.specs.declared.State.{State}
+use Rattle.receiver.specs.States.{freshOf, properOf}
+use Rattle.receiver.specs.Steps.{stepOf}
+use Rattle.receiver.specs.Runs.{runFrom, runOf}
+use Rattle.receiver.specs.History.{bitsBefore, bitsFed, ranAll, fedAll, afterFrom, after}
+use Rattle.receiver.proofs.Choices.{cond-elim}
+use Rattle.receiver.proofs.StaysProper.{Proper, step-proper, run-proper, fresh-proper}
+
+pub after-append : (s : State) (xs ys : List ℕ) → afterFrom s (xs ++ ys) ≡ afterFrom (afterFrom s xs) ys
+unfolding afterFrom
+after-append s [] ys = refl
+after-append s (x ∷ xs) ys = after-append (stepOf s x .next) xs ys
+
+-- after bits a proper state is proper
+pub after-proper : (s : State) (l : List ℕ) → Bits l → Proper s → Proper (afterFrom s l)
+unfolding afterFrom
+after-proper s [] h p = p
+after-proper s (b ∷ l) h p = after-proper (stepOf s b .next) l (h .1) (step-proper s b (h .0) p)
+
+-- ---- one run
+
+before-bits : (bs : List ℕ) → Bits (bitsBefore bs)
+unfolding bitsBefore
+before-bits [] = tt
+before-bits (b ∷ bs) = cond-elim Bits (ltb b 2) (λ e. (ltb-true b 2 e, before-bits bs)) (λ _. tt)
+
+from-after : (bs : List ℕ) (good bad passed : ℕ) (s : State) → runFrom bs good bad passed s .state ≡ afterFrom s (bitsBefore bs)
+unfolding runFrom bitsBefore afterFrom
+from-after [] good bad passed s = refl
+from-after (b ∷ bs) good bad passed s =
+    cond-elim (λ (r : Ran). r .state ≡ afterFrom s (bitsBefore (b ∷ bs))) (ltb b 2) (λ e. rw e (from-after bs _ _ _ (stepOf s b .next))) (λ e. rw e)
+
+run-after : (s : State) (bs : List ℕ) → properOf s ≡ true → runOf s bs .state ≡ afterFrom s (bitsFed bs)
+unfolding runOf bitsFed afterFrom
+run-after s bs p =
+    rw p (cond-elim (λ (r : Ran). r .state ≡ afterFrom s (bitsFed bs)) (ltb 65536 (length bs)) (λ e. rw e) (λ e. rw e (from-after bs 0 0 0 s)))
+
+-- a run of bits within the limit feeds them all
+all-before : (l : List ℕ) → Bits l → bitsBefore l ≡ l
+unfolding bitsBefore
+all-before [] h = refl
+all-before (b ∷ l) h = rw (lt-ltb b 2 (h .0), all-before l (h .1))
+
+pub run-fresh : (l : List ℕ) → Bits l → length l ≤ 65536 → runOf freshOf l .state ≡ after l
+unfolding bitsFed
+run-fresh l h limit = run-after freshOf l (fresh-proper .proper) ∙ rw (le-ltb 65536 (length l) limit, all-before l h)
+
+-- ---- all runs
+
+fed-bits : (bs : List ℕ) → Bits (bitsFed bs)
+unfolding bitsFed
+fed-bits bs = cond-elim Bits (ltb 65536 (length bs)) (λ _. tt) (λ _. before-bits bs)
+
+pub all-bits : (runs : List (List ℕ)) → Bits (fedAll runs)
+unfolding fedAll
+all-bits [] = tt
+all-bits (bs ∷ runs) = bits-append (bitsFed bs) (fedAll runs) (fed-bits bs) (all-bits runs)
+
+all-after : (s : State) (runs : List (List ℕ)) → Proper s → ranAll s runs ≡ afterFrom s (fedAll runs)
+unfolding ranAll fedAll afterFrom
+all-after s [] p = refl
+all-after s (bs ∷ runs) p =
+    all-after (runOf s bs .state) runs (run-proper s bs p)
+    ∙ ap (λ (t : State). afterFrom t (fedAll runs)) (run-after s bs (p .proper)) ∙ sym (after-append s (bitsFed bs) (fedAll runs))
+
+-- runs from a fresh state leave the state after what they fed
+pub runs-after : (runs : List (List ℕ)) → ranAll freshOf runs ≡ after (fedAll runs)
+runs-after runs = all-after freshOf runs fresh-proper

@@ -1,0 +1,186 @@
+-- `feed_all` meets its contract. The loop's invariant: what is left from here, with what is counted and held, gives the whole run.
+-- Assumes nothing.
+use borrow.Author.Needs.{needs}
+use mathlib.Core.List.{List}
+use mathlib.Core.Logic.{⊎-elim}
+use mathlib.Core.Path.{_≡_, refl, sym, _∙_}
+use Prim.Native.Nat.{ℕ, _≤_, _<_, _-_}
+use native.Mathlib.Omega.{arith}
+use lib.ListN.{length, getD, drop, set, length-set}
+use Rattle.receiver.specs.declared.Lock.{Lock}
+use Rattle.receiver.specs.declared.State.{State}
+use Rattle.receiver.specs.States.{stateOf, lockIn}
+use Rattle.receiver.specs.Runs.{runFrom}
+use Rattle.receiver.proofs.Small.{judged-small, after-places}
+use Rattle.receiver.proofs.Running.{run-done, run-stops, run-waits, run-judges}
+use Rattle.receiver.proofs.feed_all.Statement.{statement}
+use Rattle.receiver.proofs.feed_all.Tie as tie
+
+-- the state taken apart and put together
+entered : (bits : List ℕ) (s : State) (l : Lock) → l ≡ lockIn s → runFrom bits 0 0 0 (stateOf l (s .waiting) (s .bits)) ≡ runFrom bits 0 0 0 s
+entered bits s l e = rw e
+
+abbrev Inv-loop : tie.InvT-loop
+Inv-loop bits window₀ waiting₀ lock₀ good₀ bad₀ passed₀ i₀ window waiting lock good bad passed i =
+    (i ≤ length bits) × (waiting < 50) × (length window ≡ 50) × (good ≤ i) × (bad ≤ i) × (passed ≤ i)
+    × (runFrom (drop i bits) good bad passed (stateOf lock waiting window) ≡ runFrom bits 0 0 0 (stateOf lock₀ waiting₀ window₀))
+
+abbrev μ-loop : tie.MeasureT-loop
+μ-loop bits window₀ waiting₀ lock₀ good₀ bad₀ passed₀ i₀ window waiting lock good bad passed i = length bits - i
+
+cast-waiting : tie.Need-cast-waiting Inv-loop μ-loop
+cast-waiting c = search needs
+
+lock-in-requires : tie.Need-lock-in-requires Inv-loop μ-loop
+lock-in-requires c κs = search needs
+
+loop-holds : tie.Need-loop-holds Inv-loop μ-loop
+loop-holds c = (omega arith, omega arith, search needs, omega arith, omega arith, omega arith, refl)
+
+shared-slice-read-bit : tie.Need-shared-slice-read-bit Inv-loop μ-loop
+shared-slice-read-bit c = omega arith
+
+cast-state-of : tie.Need-cast-state-of Inv-loop μ-loop
+cast-state-of c = omega arith
+
+state-of-requires : tie.Need-state-of-requires Inv-loop μ-loop
+state-of-requires c κs = search needs
+
+counted-requires : tie.Need-counted-requires Inv-loop μ-loop
+counted-requires c κs = search needs
+
+returns : tie.Need-returns Inv-loop μ-loop
+returns c =
+    let at = c .before .before .before .before .before in
+    let start = at .before .before .before .before .before in
+    let bits = start .args .bits .now in
+    rw (c .counted .ensures, c .before .state-of .ensures)
+    (sym (run-stops bits (at .loop .i) _ _ _ (c .before .before .before .before .loop-test .taken) _ (c .before .before .if1 .taken)) ∙ at .loop .inv .6 ∙ entered bits (start .args .state) _ (at .before .lock-in .ensures))
+
+array-write-window : tie.Need-array-write-window Inv-loop μ-loop
+array-write-window c = omega arith
+
+add-waiting : tie.Need-add-waiting Inv-loop μ-loop
+add-waiting c = omega arith
+
+slice-aggregate-judge-window : tie.Need-slice-aggregate-judge-window Inv-loop μ-loop
+slice-aggregate-judge-window c = search needs
+
+judge-window-requires : tie.Need-judge-window-requires Inv-loop μ-loop
+judge-window-requires c κs = rw length-set (c .before .before .before .before .before .loop .inv .2)
+
+cast-good : tie.Need-cast-good Inv-loop μ-loop
+cast-good c = search needs
+
+add-good : tie.Need-add-good Inv-loop μ-loop
+add-good c =
+    let at = c .before .before .before .before .before .before .before in
+    omega (arith, judged-small (at .loop .window) _ _ _ (c .before .judge-window .ensures), at .loop .inv, at .before .before .before .before .before .pre)
+
+cast-bad : tie.Need-cast-bad Inv-loop μ-loop
+cast-bad c = search needs
+
+add-bad : tie.Need-add-bad Inv-loop μ-loop
+add-bad c =
+    let at = c .before .before .before .before .before .before .before .before in
+    omega (arith, judged-small (at .loop .window) _ _ _ (c .before .before .judge-window .ensures), at .loop .inv, at .before .before .before .before .before .pre)
+
+cast-passed : tie.Need-cast-passed Inv-loop μ-loop
+cast-passed c = search needs
+
+add-passed : tie.Need-add-passed Inv-loop μ-loop
+add-passed c =
+    let at = c .before .before .before .before .before .before .before .before .before in
+    omega (arith, judged-small (at .loop .window) _ _ _ (c .before .before .before .judge-window .ensures), at .loop .inv, at .before .before .before .before .before .pre)
+
+settle-requires : tie.Need-settle-requires Inv-loop μ-loop
+settle-requires c κs = rw length-set (c .before .before .before .before .before .before .before .before .before .before .before .loop .inv .2)
+
+add-i : tie.Need-add-i Inv-loop μ-loop
+add-i c = omega arith
+
+loop-less : tie.Need-loop-less Inv-loop μ-loop
+loop-less c = omega arith
+
+loop-again : tie.Need-loop-again Inv-loop μ-loop
+loop-again c =
+    let at = c .before .before .before .before in
+    let bits = at .before .before .before .before .before .args .bits .now in
+    let inv = at .loop .inv in
+    let more = c .before .before .before .loop-test .taken in
+    let bit : getD bits (at .loop .i) 0 < 2 = omega (arith, c .before .if1 .left) in
+    ⊎-elim
+    (λ w.
+    let filled : List ℕ = set (at .loop .window) (at .loop .waiting) (getD bits (at .loop .i) 0) in
+    let small = judged-small filled _ _ _ (w .2 .ensures) in
+    let full : length filled ≡ 50 = rw length-set (inv .2) in (
+      omega arith,
+      rw (w .10, w .8 .ensures .0) (small .room),
+      rw (w .9, w .8 .ensures .1) (after-places (w .2 .result) filled full),
+      omega (arith, w .12),
+      omega (arith, w .13),
+      omega (arith, w .14),
+      rw (w .9, w .10, w .11, w .12, w .13, w .14, w .8 .ensures .0, w .8 .ensures .1)
+          (sym (run-judges bits (at .loop .i) _ _ _ more _ _ _ bit (omega (arith, w .0 .taken)) (w .2 .result) (w .2 .ensures)) ∙ inv .6),
+    ))
+    (λ w. (
+      omega arith,
+      omega (arith, w .0 .left, w .2),
+      rw (w .1, length-set) (inv .2),
+      omega (arith, w .4),
+      omega (arith, w .5),
+      omega (arith, w .6),
+      rw (w .1, w .2, w .3, w .4, w .5, w .6)
+          (sym (run-waits bits (at .loop .i) _ _ _ more _ _ _ bit (omega (arith, w .0 .left))) ∙ inv .6),
+    ))
+    (c .if2 .came)
+
+cast-state-of-2 : tie.Need-cast-state-of-2 Inv-loop μ-loop
+cast-state-of-2 c = omega arith
+
+state-of-requires-2 : tie.Need-state-of-requires-2 Inv-loop μ-loop
+state-of-requires-2 c κs = search needs
+
+counted-requires-2 : tie.Need-counted-requires-2 Inv-loop μ-loop
+counted-requires-2 c κs = search needs
+
+returns-2 : tie.Need-returns-2 Inv-loop μ-loop
+returns-2 c =
+    let at = c .before .before .before in
+    let start = at .before .before .before .before .before in
+    let bits = start .args .bits .now in
+    rw (c .counted2 .ensures, c .before .state-of2 .ensures)
+    (sym (run-done bits (at .loop .i) _ _ _ _ (c .before .before .loop-test .left)) ∙ at .loop .inv .6 ∙ entered bits (start .args .state) _ (at .before .lock-in .ensures))
+
+pub feed-all-spec : {M : Type 1} → statement M
+feed-all-spec =
+    tie.close
+    (tie.spec
+    Inv-loop
+    μ-loop
+    cast-waiting
+    lock-in-requires
+    loop-holds
+    shared-slice-read-bit
+    cast-state-of
+    state-of-requires
+    counted-requires
+    returns
+    array-write-window
+    add-waiting
+    slice-aggregate-judge-window
+    judge-window-requires
+    cast-good
+    add-good
+    cast-bad
+    add-bad
+    cast-passed
+    add-passed
+    settle-requires
+    add-i
+    loop-less
+    loop-again
+    cast-state-of-2
+    state-of-requires-2
+    counted-requires-2
+    returns-2)

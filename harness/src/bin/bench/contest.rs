@@ -1,0 +1,45 @@
+//! Contenders on the same input, the product first. All must agree, or the run
+//! fails; a ratio alone never fails it.
+
+use std::time::Duration;
+
+/// The best time of each contender. They take turns, so that other work on the
+/// machine disturbs all alike.
+pub fn best_times<const N: usize, C: Copy, A: PartialEq>(
+    rounds: usize,
+    names: [&str; N],
+    contenders: [C; N],
+    run: impl Fn(C) -> (Duration, A),
+) -> [Duration; N] {
+    let (_, expected) = run(contenders[0]);
+    let mut best = [Duration::MAX; N];
+    for _ in 0..rounds {
+        for (place, contender) in contenders.into_iter().enumerate() {
+            let (time, answers) = run(contender);
+            assert!(answers == expected, "{} and {} disagree", names[0], names[place]);
+            best[place] = best[place].min(time);
+        }
+    }
+    best
+}
+
+/// Prints how many `things` per second each got through, and the ratios.
+pub fn show<const N: usize>(
+    what: &str,
+    names: [&str; N],
+    best: [Duration; N],
+    count: usize,
+    things: &str,
+) {
+    let rates = best.map(|time| count as f64 / time.as_secs_f64());
+    for (name, rate) in names.iter().zip(rates) {
+        println!("{what}: {name} {:.1} million {things} per second", rate / 1e6);
+    }
+    let ratios: Vec<String> = names
+        .iter()
+        .zip(rates)
+        .skip(1)
+        .map(|(name, rate)| format!("{}/{name} = {:.2}", names[0], rates[0] / rate))
+        .collect();
+    println!("{what}: {}", ratios.join(", "));
+}

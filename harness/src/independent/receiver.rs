@@ -1,0 +1,252 @@
+//! The receiver as a history: every bit ever heard is kept, and mode, time and
+//! counts are read off the places where blocks ended in it.
+
+use super::{calendar, read, record, BLOCK};
+use crate::face::{Counts, Record, State, CANDIDATE, CONFIRMED, HUNTING, LOCKED, NO_TIME, TRYING};
+use crate::refusals::{NOT_A_BIT, RUN_TOO_LONG};
+
+/// The longest run.
+pub const RUN: usize = 65_536;
+
+/// Good blocks that give lock.
+const LOCKING: usize = 3;
+
+/// Bad blocks in a row that lose it.
+const LOSING: usize = 4;
+
+/// Blocks in a minute, and so from one time block to the next.
+pub const MINUTE: usize = 30;
+
+/// A search for blocks, which begins where the one before was given up.
+#[derive(Default)]
+struct Search {
+    from: usize,
+    /// Where its first good window begins; from there on every fifty bits are
+    /// a block.
+    start: Option<usize>,
+    /// Which blocks were good.
+    blocks: Vec<bool>,
+    /// The usable time blocks behind those that gave lock.
+    times: Vec<Time>,
+}
+
+/// A usable time block.
+struct Time {
+    /// Its place among the blocks.
+    block: usize,
+    record: Record,
+    confirmed: bool,
+}
+
+impl Search {
+    /// Bits passed over by the time that `heard` bits were heard.
+    fn passed(&self, heard: usize) -> usize {
+        // Each judged window passes over one bit, up to the good one.
+        let windows = heard.saturating_sub(self.from + BLOCK - 1);
+        self.start.map_or(windows, |start| windows.min(start - self.from))
+    }
+
+    /// The blocks that ended after `heard` bits.
+    fn blocks_since(&self, heard: usize) -> &[bool] {
+        let ended = self.start.map_or(0, |start| heard.saturating_sub(start) / BLOCK);
+        &self.blocks[ended..]
+    }
+
+    fn is_locked(&self) -> bool {
+        self.blocks.len() >= LOCKING
+    }
+
+    fn is_given_up(&self) -> bool {
+        self.blocks.iter().take(LOCKING).any(|good| !good)
+            || self.blocks.ends_with(&[false; LOSING])
+    }
+
+    /// Bad blocks at the end.
+    fn bad_run(&self) -> usize {
+        self.blocks.iter().rev().take_while(|&good| !good).count()
+    }
+
+    /// The last usable time block, if it is less than a minute old, with its
+    /// age in blocks.
+    fn time(&self) -> Option<(&Time, usize)> {
+        let time = self.times.last()?;
+        let age = self.blocks.len() - 1 - time.block;
+        (age < MINUTE).then_some((time, age))
+    }
+
+    /// Takes in the block whose fifty bits these are.
+    fn judge(&mut self, bits: &[u8]) {
+        let place = self.blocks.len();
+        let read = read(bits);
+        self.blocks.push(read.is_ok());
+        let record = read.and_then(|(code, word)| record::read(code, word));
+        if let Some(record) = record.ok().filter(calendar::usable) {
+            if place >= LOCKING {
+                let confirmed = self.confirmed_by(place, &record);
+                self.times.push(Time { block: place, record, confirmed });
+            }
+        }
+    }
+
+    /// Whether the usable time block before this one is exactly a minute older
+    /// and tells the minute before. The offset may change.
+    fn confirmed_by(&self, place: usize, record: &Record) -> bool {
+        self.times.last().is_some_and(|earlier| {
+            let next = calendar::next_minute(earlier.record);
+            earlier.block + MINUTE == place
+                && next == Ok(Record { offset: earlier.record.offset, ..*record })
+        })
+    }
+}
+
+/// Every bit heard, and every search among them.
+pub struct History {
+    bits: Vec<u8>,
+    searches: Vec<Search>,
+}
+
+impl History {
+    /// Nothing heard yet.
+    pub fn fresh() -> Self {
+        History { bits: Vec::new(), searches: vec![Search::default()] }
+    }
+
+    /// A history, made up, that ends in this proper state. Of blocks long past
+    /// only the verdict matters, so their bits are left 0.
+    pub fn leading_to(state: &State) -> Self {
+        let mut search = Search::default();
+        match state.mode {
+            TRYING => search.blocks = vec![true; state.good.into()],
+            LOCKED => {
+                search.blocks = vec![true; LOCKING + MINUTE];
+                search.blocks.extend(vec![false; state.bad.into()]);
+            }
+            _ => {}
+        }
+        if state.time != NO_TIME {
+            let block = search.blocks.len() - 1 - usize::from(state.age);
+            let confirmed = state.time == CONFIRMED;
+            search.times.push(Time { block, record: state.record, confirmed });
+        }
+        search.start = (state.mode != HUNTING).then_some(0);
+        let mut bits = vec![0; search.blocks.len() * BLOCK];
+        bits.extend(&state.bits[..state.waiting.into()]);
+        History { bits, searches: vec![search] }
+    }
+
+    /// How many bits were heard.
+    pub fn heard(&self) -> usize {
+        self.bits.len()
+    }
+
+    pub fn is_locked(&self) -> bool {
+        self.latest().is_locked()
+    }
+
+    fn latest(&self) -> &Search {
+        self.searches.last().expect("there is always a search")
+    }
+
+    /// Hears one bit, 0 or 1.
+    pub fn hear(&mut self, bit: u8) {
+        self.bits.push(bit);
+        let heard = self.bits.len();
+        let search = self.searches.last_mut().expect("there is always a search");
+        let Some(window) = heard.checked_sub(BLOCK).filter(|&window| window >= search.from) else {
+            return;
+        };
+        match search.start {
+            None if read(&self.bits[window..]).is_err() => return,
+            None => search.start = Some(window),
+            Some(start) if !(heard - start).is_multiple_of(BLOCK) => return,
+            Some(_) => {}
+        }
+        search.judge(&self.bits[window..]);
+        if search.is_given_up() {
+            self.searches.push(Search { from: heard, ..Search::default() });
+        }
+    }
+
+    /// Answers as a run does, with 9 or 1 where it must.
+    pub fn run(&mut self, bits: &[u8]) -> Counts {
+        if bits.len() > RUN {
+            return Counts::refused(RUN_TOO_LONG);
+        }
+        let before = self.heard();
+        let heard = bits.iter().take_while(|&&bit| bit <= 1);
+        heard.for_each(|&bit| self.hear(bit));
+        let all_heard = self.heard() - before == bits.len();
+        let refusal = if all_heard { 0 } else { NOT_A_BIT };
+        Counts { refusal, ..self.counts_since(before) }
+    }
+
+    /// The counts of all that came after the first `before` bits.
+    pub fn counts_since(&self, before: usize) -> Counts {
+        let waiting = self.waiting() as u32;
+        let mut counts = Counts { waiting, ..Counts::default() };
+        for search in self.searches.iter().rev() {
+            let blocks = search.blocks_since(before);
+            let good = blocks.iter().filter(|&&good| good).count();
+            counts.good += good as u32;
+            counts.bad += (blocks.len() - good) as u32;
+            counts.passed += (search.passed(self.heard()) - search.passed(before)) as u32;
+            if search.from <= before {
+                break;
+            }
+        }
+        counts
+    }
+
+    fn waiting(&self) -> usize {
+        let search = self.latest();
+        match search.start {
+            None => (self.heard() - search.from).min(BLOCK - 1),
+            Some(start) => (self.heard() - start) % BLOCK,
+        }
+    }
+
+    /// The state in which this history leaves a receiver.
+    pub fn state(&self) -> State {
+        let search = self.latest();
+        let waiting = self.waiting();
+        let mut state = State { waiting: waiting as u8, ..State::FRESH };
+        state.bits[..waiting].copy_from_slice(&self.bits[self.heard() - waiting..]);
+        if search.is_locked() {
+            state.mode = LOCKED;
+            state.bad = search.bad_run() as u8;
+        } else if search.start.is_some() {
+            state.mode = TRYING;
+            state.good = search.blocks.len() as u8;
+        }
+        if let Some((time, age)) = search.time() {
+            state.time = if time.confirmed { CONFIRMED } else { CANDIDATE };
+            state.record = time.record;
+            state.age = age as u8;
+        }
+        state
+    }
+}
+
+/// Whether a state is proper.
+pub fn is_proper(state: &State) -> bool {
+    let counted = match state.mode {
+        HUNTING => (state.good, state.bad) == (0, 0),
+        TRYING => matches!((state.good, state.bad), (1..=2, 0)),
+        LOCKED => matches!((state.good, state.bad), (0, 0..=3)),
+        _ => false,
+    };
+    let timed = match state.time {
+        NO_TIME => (state.record, state.age) == (Record::default(), 0),
+        CANDIDATE | CONFIRMED => {
+            state.mode == LOCKED && state.age <= 29 && calendar::usable(&state.record)
+        }
+        _ => false,
+    };
+    let filled =
+        state.bits.split_at_checked(state.waiting.into()).is_some_and(|(waiting, free)| {
+            !free.is_empty()
+                && waiting.iter().all(|&bit| bit <= 1)
+                && free.iter().all(|&bit| bit == 0)
+        });
+    counted && timed && filled
+}

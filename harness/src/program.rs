@@ -1,0 +1,26 @@
+//! Runs a receiver program on an input file.
+
+use std::env;
+use std::ffi::OsString;
+use std::fs::File;
+use std::path::{Path, PathBuf};
+use std::process::{Command, Stdio};
+
+/// The product's program, if `RECEIVE_BIN` names it.
+pub fn product() -> Option<OsString> {
+    env::var_os("RECEIVE_BIN")
+}
+
+/// All that the program prints with this file as its standard input.
+pub fn output(program: &mut Command, input: &Path) -> String {
+    let file = File::open(input).unwrap_or_else(|error| panic!("{}: {error}", input.display()));
+    let output = program.stdin(file).stderr(Stdio::inherit()).output();
+    let output = output.unwrap_or_else(|error| panic!("{program:?}: {error}"));
+    assert!(output.status.success(), "{program:?}: {}", output.status);
+    String::from_utf8(output.stdout).unwrap_or_else(|error| panic!("{program:?}: {error}"))
+}
+
+/// A file of the project's examples.
+pub fn example(name: &str) -> PathBuf {
+    Path::new(env!("CARGO_MANIFEST_DIR")).join("../examples").join(name)
+}

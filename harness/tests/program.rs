@@ -1,0 +1,129 @@
+//! The receiver program: the independent one on what document 01 states, the
+//! product's beside it, and the stored sample.
+
+use std::fmt::Write;
+use std::fs;
+use std::path::{Path, PathBuf};
+use std::process::Command;
+
+use harness::face::{CONFIRMED, LOCKED};
+use harness::feeds::{troubled, MISHAPS};
+use harness::independent::calendar::date_of_record;
+use harness::independent::receiver::History;
+use harness::program::{example, output, product};
+use harness::random::{report, Random};
+
+/// What document 01 states: a lock, and nothing left over.
+const STATED: &str = "LOCK 150\nEND 150 3 0 0 0\n";
+
+fn stored(name: &str) -> String {
+    fs::read_to_string(example(name)).unwrap_or_else(|error| panic!("{name}: {error}"))
+}
+
+/// A file that holds these bytes.
+fn input(name: &str, bytes: &[u8]) -> PathBuf {
+    let path = Path::new(env!("CARGO_TARGET_TMPDIR")).join(name);
+    fs::write(&path, bytes).unwrap_or_else(|error| panic!("{}: {error}", path.display()));
+    path
+}
+
+/// What the independent program prints; the product's must print the same.
+fn receive(input: &Path) -> String {
+    let expected = output(&mut Command::new(env!("CARGO_BIN_EXE_reference")), input);
+    if let Some(product) = product() {
+        let printed = output(&mut Command::new(product), input);
+        assert_eq!(printed, expected, "receiving {}", input.display());
+    }
+    expected
+}
+
+#[test]
+fn the_stated_example() {
+    let block = format!("1{}", "0".repeat(49));
+    let line = format!("{block}\n");
+    for text in [block.repeat(3), line.repeat(3), line.repeat(3) + "\n\n"] {
+        assert_eq!(receive(&input("stated.txt", text.as_bytes())), STATED);
+        // Anything but 0, 1 and a newline ends the input, and nothing behind it counts.
+        for end in [b'\r', b' ', b'2', b'/', b'x', 0, 255] {
+            let bytes = [text.as_bytes(), &[end], text.as_bytes()].concat();
+            assert_eq!(receive(&input("ended.txt", &bytes)), STATED, "ended by {end}");
+        }
+    }
+}
+
+#[test]
+fn short_inputs() {
+    for (text, end) in [
+        ("", "END 0 0 0 0 0\n"),
+        ("\n\n", "END 0 0 0 0 0\n"),
+        ("x", "END 0 0 0 0 0\n"),
+        ("1", "END 1 0 0 0 1\n"),
+        ("0\n1\n0", "END 3 0 0 0 3\n"),
+    ] {
+        assert_eq!(receive(&input("short.txt", text.as_bytes())), end, "{text:?}");
+    }
+}
+
+#[test]
+fn the_sample() {
+    let sample = output(&mut Command::new(env!("CARGO_BIN_EXE_sample")), &input("none", b""));
+    assert!(sample == stored("feed.txt"), "examples/feed.txt is not what `sample` writes");
+    assert_eq!(receive(&example("feed.txt")), stored("feed.out"));
+}
+
+/// What the example in C shows, from the history of the sample.
+#[test]
+fn the_times_of_the_sample() {
+    let mut history = History::fresh();
+    let mut shown = String::new();
+    for bit in stored("feed.txt").bytes().take_while(|&byte| byte != b'x') {
+        if bit == b'\n' {
+            continue;
+        }
+        history.hear(bit - b'0');
+        let state = history.state();
+        if (state.mode, state.time, state.age, state.waiting) == (LOCKED, CONFIRMED, 0, 0) {
+            let date = date_of_record(state.record, 1970).expect("a date");
+            writeln!(
+                shown,
+                "bit {}: {:04}-{:02}-{:02} {:02}:{:02} UTC, offset {}",
+                history.heard(),
+                date.year,
+                date.month,
+                date.day,
+                date.hour,
+                date.minute,
+                date.offset
+            )
+            .expect("writing to a string");
+        }
+    }
+    assert_eq!(shown, stored("show_time.expected"));
+}
+
+#[test]
+fn long_inputs() {
+    let mut random = Random::named("inputs");
+    let mut count = 0;
+    for round in 0..20 {
+        let any = |random: &mut Random| MISHAPS[random.below(MISHAPS.len())];
+        let mut bits = troubled(&mut random, 150, 100, any);
+        bits.extend(random.bits(100_000));
+        // Lines of a block, of any length, or none.
+        let often = [51, 2, 1_000_000][round % 3];
+        let mut text = Vec::new();
+        for (place, bit) in bits.iter().enumerate() {
+            if place % often == often - 1 || random.below(often * 10) == 0 {
+                text.push(b'\n');
+            }
+            text.push(b'0' + bit);
+        }
+        let printed = receive(&input("long.txt", &text));
+        assert!(printed.starts_with("LOCK") && printed.contains("LOST"));
+        count += bits.len();
+    }
+    match product() {
+        Some(_) => report("bits through the product's program", count),
+        None => println!("RECEIVE_BIN is not set: the product's program was NOT compared"),
+    }
+}

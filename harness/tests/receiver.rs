@@ -1,0 +1,274 @@
+//! The library's receiver against the history of what it was fed: state and
+//! counts after every bit and after every run.
+
+use harness::compare::Receiver;
+use harness::face::{Counts, Record, CANDIDATE, CONFIRMED, HUNTING, LOCKED, NO_TIME, TRYING};
+use harness::feeds::{bits_of_all, time_block, troubled, Sender, MINUTE, MISHAPS};
+use harness::independent::receiver::RUN;
+use harness::independent::{bits_of, block, calendar, BLOCK, PREFIX};
+use harness::random::{report, Random};
+use harness::slips;
+
+/// 31 December 1986, 23:58.
+const RECORD: Record =
+    Record { leap: 2, start_day: 3, week: 53, weekday: 3, hour: 23, minute: 58, offset: 0 };
+
+fn filler() -> u64 {
+    block(0, 1 << 31)
+}
+
+/// A filler with one bit changed.
+fn damaged() -> u64 {
+    filler() ^ 1
+}
+
+/// The blocks of a minute, the last of which tells this record.
+fn minute(record: Record) -> Vec<u64> {
+    Sender(record).minute(&mut Random::named("a minute")).to_vec()
+}
+
+fn next(record: Record) -> Record {
+    calendar::next_minute(record).expect("a next minute")
+}
+
+/// A receiver that was fed these blocks.
+fn after(blocks: &[u64]) -> Receiver {
+    let mut receiver = Receiver::fresh();
+    receiver.run(&bits_of_all(blocks));
+    receiver
+}
+
+/// Runs a feed in pieces of random lengths, and gives their counts in all.
+fn run_in_pieces(receiver: &mut Receiver, feed: &[u8], random: &mut Random) -> Counts {
+    let mut all = Counts::default();
+    let mut left = feed;
+    let before = u32::from(receiver.state().waiting);
+    while !left.is_empty() {
+        let most = [BLOCK, 1_000, RUN][random.below(3)];
+        let (piece, rest) = left.split_at((1 + random.below(most)).min(left.len()));
+        let counts = receiver.run(piece);
+        all.good += counts.good;
+        all.bad += counts.bad;
+        all.passed += counts.passed;
+        all.waiting = counts.waiting;
+        left = rest;
+    }
+    let used = BLOCK as u32 * (all.good + all.bad) + all.passed + all.waiting;
+    assert_eq!(before + feed.len() as u32, used, "every bit is counted once");
+    all
+}
+
+#[test]
+fn the_stated_example() {
+    let mut receiver = Receiver::fresh();
+    let bits = bits_of_all(&[PREFIX; 3]);
+    receiver.run(&bits[..149]);
+    assert_eq!((receiver.state().mode, receiver.state().good), (TRYING, 2));
+    receiver.feed(bits[149]);
+    assert_eq!(receiver.state().mode, LOCKED);
+    let counts = Receiver::fresh().run(&bits);
+    assert_eq!(counts, Counts { good: 3, ..Counts::default() });
+}
+
+#[test]
+fn lock_comes_with_three_good_blocks_and_goes_with_four_bad_ones() {
+    for (blocks, mode) in [
+        (vec![filler(); 1], TRYING),
+        (vec![filler(); 2], TRYING),
+        (vec![filler(); 3], LOCKED),
+        (vec![filler(), damaged()], HUNTING),
+        (vec![filler(), filler(), damaged()], HUNTING),
+    ] {
+        assert_eq!(after(&blocks).state().mode, mode, "{} blocks", blocks.len());
+    }
+    for (bad, mode) in [(3, LOCKED), (4, HUNTING)] {
+        let receiver = after(&[[filler()].repeat(3), [damaged()].repeat(bad)].concat());
+        assert_eq!(receiver.state().mode, mode, "{bad} bad blocks");
+    }
+    let interrupted = [[damaged()].repeat(3), vec![filler()]].concat().repeat(5);
+    let receiver = after(&[[filler()].repeat(3), interrupted].concat());
+    assert_eq!((receiver.state().mode, receiver.state().bad), (LOCKED, 0));
+}
+
+#[test]
+fn the_blocks_that_give_lock_are_not_offered() {
+    let told = time_block(RECORD);
+    assert_eq!(after(&[told; 3]).state().time, NO_TIME);
+    assert_eq!(after(&[told; 4]).state().time, CANDIDATE);
+}
+
+#[test]
+fn a_time_is_confirmed_a_minute_later_and_not_a_block_sooner_or_later() {
+    let start = minute(RECORD);
+    let minute = minute(next(RECORD));
+    let late = [vec![filler()], minute.clone()].concat();
+    for (blocks, time) in [(&minute[..], CONFIRMED), (&minute[1..], CANDIDATE), (&late, CANDIDATE)]
+    {
+        let receiver = after(&[&start, blocks].concat());
+        assert_eq!(receiver.state().time, time, "after {} blocks", blocks.len());
+        assert_eq!((receiver.state().record, receiver.state().age), (next(RECORD), 0));
+    }
+}
+
+#[test]
+fn another_offset_confirms_and_another_minute_does_not() {
+    let start = minute(RECORD);
+    for (told, time) in [
+        (Record { offset: 2, ..next(RECORD) }, CONFIRMED),
+        (Record { hour: 22, ..next(RECORD) }, CANDIDATE),
+        (RECORD, CANDIDATE),
+        (next(next(RECORD)), CANDIDATE),
+    ] {
+        assert_eq!(after(&[start.clone(), minute(told)].concat()).state().time, time);
+    }
+}
+
+#[test]
+fn bad_blocks_age_the_time() {
+    let mut blocks = minute(RECORD);
+    let state = |blocks: &[u64]| *after(blocks).state();
+    for age in 1..=29 {
+        blocks.push(if age % 4 == 0 { filler() } else { damaged() });
+        let state = state(&blocks);
+        assert_eq!((state.time, state.age), (CANDIDATE, age));
+    }
+    blocks.push(filler());
+    assert_eq!(state(&blocks).time, NO_TIME, "age 30");
+}
+
+#[test]
+fn a_lost_feed_leaves_no_proof_to_the_next() {
+    let (first, second, third) = (minute(RECORD), minute(next(RECORD)), next(next(RECORD)));
+    let mut lost = [first, second].concat();
+    assert_eq!(after(&lost).state().time, CONFIRMED);
+    lost.extend([damaged(); 4]);
+    assert_eq!(*after(&lost).state(), harness::face::fresh());
+    // The next time block comes when it would have confirmed.
+    lost.extend([filler(); MINUTE - 5]);
+    assert_eq!((after(&lost).state().mode, after(&lost).state().time), (LOCKED, NO_TIME));
+    lost.push(time_block(third));
+    assert_eq!(after(&lost).state().time, CANDIDATE);
+}
+
+#[test]
+fn long_clean_feeds() {
+    const MINUTES: usize = 6_000;
+    let mut random = Random::named("clean feeds");
+    // Over a new year, and from the evening before a day without records.
+    let before_week_54 = Record { leap: 0, start_day: 7, weekday: 7, hour: 20, ..RECORD };
+    for record in [RECORD, before_week_54, random.usable_record()] {
+        let mut sender = Sender(record);
+        let mut receiver = Receiver::fresh();
+        let mut told = None;
+        for _ in 0..MINUTES {
+            let expected = sender.0;
+            let counts = receiver.run(&sender.minutes(&mut random, 1));
+            assert_eq!(counts, Counts { good: 30, ..Counts::default() });
+            let follows = told.is_some_and(|told| calendar::next_minute(told) == Ok(expected));
+            let time = if follows { CONFIRMED } else { CANDIDATE };
+            let state = receiver.state();
+            assert_eq!((state.time, state.age, state.record), (time, 0, expected));
+            told = Some(expected);
+        }
+    }
+    report("bits of clean feeds", 3 * MINUTES * MINUTE * BLOCK);
+}
+
+#[test]
+fn every_mishap_bit_by_bit() {
+    let mut random = Random::named("mishaps bit by bit");
+    let mut count = 0;
+    for mishap in MISHAPS {
+        // How often a bit left the receiver in each mode and with each time.
+        let mut modes = [0; 3];
+        let mut times = [0; 3];
+        for every in [2, 5, 20, 50, 100, 200, 500, 1_000] {
+            let feed = troubled(&mut random, 12, every, |_| mishap);
+            let mut receiver = Receiver::fresh();
+            for bit in feed {
+                receiver.feed(bit);
+                modes[usize::from(receiver.state().mode)] += 1;
+                times[usize::from(receiver.state().time)] += 1;
+                count += 1;
+            }
+        }
+        assert!(!modes.contains(&0) && !times.contains(&0), "{mishap:?}: {modes:?}, {times:?}");
+    }
+    report("bits of feeds with mishaps, bit by bit", count);
+}
+
+#[test]
+fn every_mishap_in_runs() {
+    let mut random = Random::named("mishaps in runs");
+    let mut count = 0;
+    for round in 0..500 {
+        let mishap = MISHAPS.get(round % (MISHAPS.len() + 1));
+        let every = 2 + random.below(200);
+        let any = |random: &mut Random| MISHAPS[random.below(MISHAPS.len())];
+        let feed = troubled(&mut random, 60, every, |random| {
+            mishap.copied().unwrap_or_else(|| any(random))
+        });
+        run_in_pieces(&mut Receiver::fresh(), &feed, &mut random);
+        count += feed.len();
+    }
+    report("bits of feeds with mishaps, in runs", count);
+}
+
+#[test]
+fn random_bits() {
+    const COUNT: usize = 30_000_000;
+    let mut random = Random::named("random bits");
+    let mut receiver = Receiver::fresh();
+    let counts = run_in_pieces(&mut receiver, &random.bits(COUNT), &mut Random::named("pieces"));
+    // About one window in 16,384 is good.
+    assert!((COUNT as u32 / 20_000..COUNT as u32 / 14_000).contains(&counts.good), "{counts:?}");
+    report("random bits", COUNT);
+}
+
+#[test]
+fn bits_that_are_mostly_the_same() {
+    const COUNT: usize = 5_000_000;
+    let mut random = Random::named("mostly the same");
+    // A 1 and 49 zeros are a good block, so few ones among zeros give many.
+    for rare in [8, 50, 400] {
+        for common in [0, 1] {
+            let bits: Vec<u8> =
+                (0..COUNT).map(|_| common ^ u8::from(random.below(rare) == 0)).collect();
+            run_in_pieces(&mut Receiver::fresh(), &bits, &mut random);
+        }
+    }
+    report("bits that are mostly the same", 6 * COUNT);
+}
+
+#[test]
+fn false_windows_of_repeated_blocks() {
+    assert_eq!(slips::good_window_of_repeated(12), Some((15, 0x8500_0000)));
+    let mut random = Random::named("repeated blocks");
+    let mut count = 0;
+    for slip in 1..BLOCK {
+        let Some((code, word)) = slips::good_window_of_repeated(slip) else { continue };
+        for times in 2..=8 {
+            for missed in 0..BLOCK {
+                let repeated = bits_of(block(code, word)).repeat(times);
+                let feed = Sender(random.usable_record()).minutes(&mut random, 1);
+                let mut receiver = Receiver::fresh();
+                for bit in [&repeated[missed..], &feed].concat() {
+                    receiver.feed(bit);
+                    count += 1;
+                }
+            }
+        }
+    }
+    report("bits of repeated blocks with false windows", count);
+}
+
+#[test]
+fn a_false_window_can_give_lock() {
+    // Begun anywhere from the second bit to the thirteenth, the search meets
+    // the false window first.
+    let repeated = bits_of(block(15, 0x8500_0000)).repeat(4);
+    let mut receiver = Receiver::fresh();
+    let counts = receiver.run(&repeated[1..12 + 3 * BLOCK]);
+    assert_eq!(counts, Counts { good: 3, passed: 11, ..Counts::default() });
+    assert_eq!(receiver.state().mode, LOCKED);
+}
