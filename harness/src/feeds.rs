@@ -49,6 +49,23 @@ impl Sender {
     }
 }
 
+/// A feed as the test generator sends it: empty fillers, a minute to a line, as
+/// characters. It ends where the calendar has no next minute.
+pub fn plain(first: Record, minutes: usize) -> String {
+    let filler = block(0, 1 << 31);
+    let mut text = String::new();
+    let mut told = Ok(first);
+    for _ in 0..minutes {
+        let Ok(record) = told else { break };
+        let mut sent = [filler; MINUTE];
+        sent[MINUTE - 1] = time_block(record);
+        text.extend(bits_of_all(&sent).iter().map(|&bit| char::from(b'0' + bit)));
+        text.push('\n');
+        told = calendar::next_minute(record);
+    }
+    text
+}
+
 /// What can befall a block of a feed.
 #[derive(Clone, Copy, Debug, PartialEq)]
 pub enum Mishap {

@@ -1,4 +1,4 @@
-//! Runs a receiver program on an input file.
+//! The programs: a receiver run on an input file, and the product's generator.
 
 use std::env;
 use std::ffi::OsString;
@@ -11,6 +11,11 @@ pub fn product() -> Option<OsString> {
     env::var_os("RECEIVE_BIN")
 }
 
+/// The product's test generator, if `TRANSMIT_BIN` names it.
+pub fn generator() -> Option<OsString> {
+    env::var_os("TRANSMIT_BIN")
+}
+
 /// All that the program prints with this file as its standard input.
 pub fn output(program: &mut Command, input: &Path) -> String {
     let file = File::open(input).unwrap_or_else(|error| panic!("{}: {error}", input.display()));
@@ -20,7 +25,12 @@ pub fn output(program: &mut Command, input: &Path) -> String {
     String::from_utf8(output.stdout).unwrap_or_else(|error| panic!("{program:?}: {error}"))
 }
 
+/// A file of the project.
+pub fn project(name: &str) -> PathBuf {
+    Path::new(env!("CARGO_MANIFEST_DIR")).join("..").join(name)
+}
+
 /// A file of the project's examples.
 pub fn example(name: &str) -> PathBuf {
-    Path::new(env!("CARGO_MANIFEST_DIR")).join("../examples").join(name)
+    project("examples").join(name)
 }
