@@ -14,6 +14,10 @@
 #include <stddef.h>
 #include <stdint.h>
 
+/* The version that this header belongs to, 4.0.0: two digits each for the
+ * second and the third part. lw_version answers that of the library. */
+#define LW_VERSION 40000
+
 #ifdef __cplusplus
 extern "C" {
 #endif
@@ -173,6 +177,9 @@ lw_counts lw_feed(lw_state *state, uint8_t bit);
  * Refusals, in this order: 9, 10, and the state then stays as it is; or 1 at a
  * bit that is none, and state and counts are then those of the bits before it. */
 lw_counts lw_run(lw_state *state, const uint8_t *bits, size_t len);
+
+/* Answers the library's version, as LW_VERSION tells the header's. */
+uint32_t lw_version(void);
 
 #ifdef __cplusplus
 }

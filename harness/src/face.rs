@@ -37,6 +37,7 @@ extern "C" {
         second_len: usize,
         number: *mut u8,
     ) -> u8;
+    fn lw_version() -> u32;
 }
 
 // In each call below a slice stands behind the pointers, so they are valid for
@@ -55,4 +56,9 @@ pub fn write_block(code: u8, word: u32, bits: &mut [u8]) -> u8 {
 /// Answers 1 for the first, 2 for the second, 0 for neither, and sets `number`.
 pub fn choose(first: &[u8], second: &[u8], number: &mut u8) -> u8 {
     unsafe { lw_choose(first.as_ptr(), first.len(), second.as_ptr(), second.len(), number) }
+}
+
+/// The library's version.
+pub fn version() -> u32 {
+    unsafe { lw_version() }
 }

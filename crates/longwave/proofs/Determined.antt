@@ -9,6 +9,7 @@ use Rattle.longwave.proofs.lw_next_minute.Reads as next-minute
 use Rattle.longwave.proofs.lw_read_block.Reads as read-block
 use Rattle.longwave.proofs.lw_read_record.Reads as read-record
 use Rattle.longwave.proofs.lw_record_of_date.Reads as record-of-date
+use Rattle.longwave.proofs.lw_version.Reads as version
 use Rattle.longwave.proofs.lw_write_block.Reads as write-block
 use Rattle.longwave.proofs.lw_write_record.Reads as write-record
 
@@ -41,3 +42,6 @@ choose-determined κs a x y s t p q = p .0 ∙ sym (q .0)
 
 pub choose-leaves : Leaves choose.Post (λ κs s. now (s .1 .1 .0))
 choose-leaves κs a x y s t p q = p .1 ∙ sym (q .1)
+
+pub version-determined : Determined version.Post
+version-determined κs a x y s t p q = p ∙ sym q

@@ -1,5 +1,6 @@
 -- The answers as flat structs for C: the refusal's number, then the values, zeros where refused.
 -- Assumes nothing.
+use Prim.Native.Nat.{ℕ, _+_, _*_}
 use Rattle.block.specs.Read.{refusalIn, codeRead, wordRead}
 use Rattle.block.specs.declared.Read.{Read}
 use Rattle.calendar.specs.Given.{givenDate}
@@ -23,3 +24,7 @@ recordFace answer = record { refusal = givenRecord answer .0; given = givenRecor
 
 abbrev pub dateFace : Dated → DateAnswer
 dateFace answer = record { refusal = givenDate answer .0; given = givenDate answer .1 }
+
+-- a version in three parts as one number, two digits each for the second and the third
+abbrev pub versionOf : ℕ → ℕ → ℕ → ℕ
+versionOf large small repair = 10000 * large + 100 * small + repair

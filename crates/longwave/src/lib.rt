@@ -5,7 +5,7 @@ ghost use Rattle.block.specs.Read.{readOf};
 ghost use Rattle.block.specs.Write.{writeOf, writtenOf, refusalOf};
 ghost use Rattle.calendar.specs.Dates.{dateOf, recordOf};
 ghost use Rattle.calendar.specs.NextMinute.{nextMinuteOf};
-ghost use Rattle.longwave.specs.Face.{blockFace, wordFace, recordFace, dateFace};
+ghost use Rattle.longwave.specs.Face.{blockFace, wordFace, recordFace, dateFace, versionOf};
 ghost use Rattle.receiver.specs.Runs.{fedOf, runOf};
 ghost use Rattle.receiver.specs.States.{freshOf};
 ghost use Rattle.record.specs.Words as words;
@@ -186,4 +186,12 @@ pub extern "C" fn lw_run(state: &mut State, bits: &[u8]) -> Counts
     let ran = receiver::run(*state, bits);
     *state = ran.state;
     ran.counts
+}
+
+// The library's version.
+#[no_mangle]
+pub extern "C" fn lw_version() -> u32
+    ensures { λ v. ⌜ v ≡ versionOf 4 0 0 ⌝ }
+{
+    40_000
 }
