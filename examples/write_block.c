@@ -1,31 +1,10 @@
 /* Writes the block of a code and a word as one line of fifty characters. */
-#include <errno.h>
 #include <stdio.h>
-#include <stdlib.h>
-#include <string.h>
 
 #include "longwave.h"
+#include "numbers.h"
 #include "reasons.h"
 #include "sample.h"
-
-/* Reads a number up to `most`, in decimal or after 0x in hexadecimal; says
- * what was expected and gives up where the text is none. */
-static uint32_t number_of(const char *name, const char *text, uint32_t most)
-{
-    int hexadecimal = strncmp(text, "0x", 2) == 0;
-    const char *digits = hexadecimal ? text + 2 : text;
-    const char *allowed = hexadecimal ? "0123456789abcdefABCDEF" : "0123456789";
-    size_t len = strspn(digits, allowed);
-
-    errno = 0;
-    unsigned long long value = strtoull(digits, NULL, hexadecimal ? 16 : 10);
-    if (len == 0 || digits[len] != '\0' || errno != 0 || value > most) {
-        fprintf(stderr, "%s: expected a number from 0 to %lu, got '%s'\n",
-                name, (unsigned long)most, text);
-        exit(2);
-    }
-    return (uint32_t)value;
-}
 
 int main(int argc, char **argv)
 {
