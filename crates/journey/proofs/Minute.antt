@@ -24,7 +24,8 @@ use Rattle.receiver.specs.declared.Time.{Time}
 use Rattle.receiver.specs.States.{none, candidate, confirmed, timeOf, stateOf, lockIn, isGiven}
 use Rattle.receiver.specs.Times.{usableIn, sameMinute, follows, renewedBy, agedBy, offeredTo}
 use Rattle.receiver.specs.Runs.{runFrom}
-use Rattle.journey.specs.Journey.{timeBlock, Message, Other, Others, sent, Idle, holding}
+use Rattle.detection.specs.Slips.{Message, sent}
+use Rattle.journey.specs.Journey.{timeBlock, Others, Idle, holding}
 use Rattle.journey.proofs.Worded.{word-fits, block-usable}
 use Rattle.journey.proofs.Fed.{feeds}
 
@@ -60,12 +61,11 @@ module _ (rest : List ℕ) where
   other-blocks [] r good age o h = rw (add-zero good, add-zero age)
   other-blocks (m ∷ ms) r good age o h =
       let b : List ℕ = blockOf (m .code) (m .word) in
-      let f : Other m = o .0 in
       let g : good + 1 + length ms ≡ good + length (m ∷ ms) = omega arith in
       let a : age + 1 + length ms ≡ age + length (m ∷ ms) = omega arith in
       ap (λ (l : List ℕ). runFrom l good 0 0 (holding candidate r age)) (append-assoc b (sent ms) rest)
-      ∙ feeds (m .code) (m .word) good (zeros 50) (sent ms ++ rest) (lockIn (holding candidate r age)) (f .code-fits) (f .word-fits) refl refl
-      ∙ rw (ages r age (usableIn (readOf b)) (f .unusable) (omega arith), ← g, ← a) (other-blocks ms r (good + 1) (age + 1) (o .1) (omega arith))
+      ∙ feeds (m .code) (m .word) good (zeros 50) (sent ms ++ rest) (lockIn (holding candidate r age)) (m .code-fits) (m .word-fits) refl refl
+      ∙ rw (ages r age (usableIn (readOf b)) (o .0) (omega arith), ← g, ← a) (other-blocks ms r (good + 1) (age + 1) (o .1) (omega arith))
 
   pub last-block : (r n : Record) → Usable n → nextMinuteOf r ≡ Given n
       → runFrom (timeBlock n ++ rest) 30 0 0 (holding candidate r 29) ≡ runFrom rest 31 0 0 (holding confirmed n 0)

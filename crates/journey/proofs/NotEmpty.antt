@@ -16,6 +16,6 @@ pub idle : (bad : ℕ) → bad ≤ 3 → Idle (stateOf (lockOf locked 0 bad noTi
 unfolding properOf bitsProper lockProper timeProper isNoTime isZeroRecord
 idle bad h = record { places = refl; proper = rw (le-leb bad 3 h); is-locked = refl; nothing-waits = refl; no-time = refl }
 
-pub filler : Other (record { code = 0; word = 0x80000000 })
+pub filler : Other (record { code = 0; word = 0x80000000; code-fits = omega arith; word-fits = omega arith })
 unfolding usableIn words.readOf
-filler = record { code-fits = omega arith; word-fits = omega arith; unusable = rw (read-back 0 0x80000000 (omega arith) (omega arith)) }
+filler = rw (read-back 0 0x80000000 (omega arith) (omega arith))

@@ -23,7 +23,8 @@ use Rattle.receiver.specs.declared.State.{State}
 use Rattle.receiver.specs.States.{candidate, confirmed}
 use Rattle.receiver.specs.Runs.{ended, runFrom, runOf}
 use Rattle.receiver.proofs.Together.{run-is}
-use Rattle.journey.specs.Journey.{timeBlock, Message, Others, sent, Idle, holding, Writable, EveryJourney}
+use Rattle.detection.specs.Slips.{Message, sent}
+use Rattle.journey.specs.Journey.{timeBlock, Others, Idle, holding, Writable, EveryJourney}
 use Rattle.journey.proofs.Worded.{date-usable, next-usable, year-on, has-word}
 use Rattle.journey.proofs.Minute.{first-block, other-blocks, last-block}
 

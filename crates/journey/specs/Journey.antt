@@ -10,6 +10,7 @@ use lib.ListN.{length}
 use Rattle.block.specs.Bits.{zeros}
 use Rattle.block.specs.Block.{blockOf}
 use Rattle.block.specs.Read.{readOf}
+use Rattle.detection.specs.Slips.{Message, sent}
 use Rattle.record.specs.declared.Record.{Record}
 use Rattle.record.specs.declared.Recorded.the-variants as recorded
 use Rattle.record.specs.declared.Worded.the-variants as worded
@@ -31,26 +32,14 @@ use Rattle.receiver.specs.Runs.{ended, runOf}
 abbrev pub timeBlock : Record → List ℕ
 timeBlock r = blockOf 0 (wordOf r)
 
--- what a block carries: a code and a word
-pub record Message : Type 0 where
-  pub code : ℕ
-  pub word : ℕ
-
--- a good block that is no usable time block: a code of 0 to 15 and a word of 32 bits, from whose block no record is taken
-pub record Other (m : Message) : Type 0 where
-  pub code-fits : m .code < 16
-  pub word-fits : m .word < 2 ^ 32
-  pub unusable : isGiven (usableIn (readOf (blockOf (m .code) (m .word)))) ≡ false
+-- a good block that is no usable time block: no record is taken from it
+abbrev pub Other : Message → Type 0
+Other m = isGiven (usableIn (readOf (blockOf (m .code) (m .word)))) ≡ false
 
 -- each of some messages is such a one
 abbrev pub Others : List Message → Type 0
 Others [] = Unit {0}
 Others (m ∷ ms) = Other m × Others ms
-
--- their blocks, one after the other
-abbrev pub sent : List Message → List ℕ
-sent [] = []
-sent (m ∷ ms) = blockOf (m .code) (m .word) ++ sent ms
 
 -- ---- the receiver before and after
 
