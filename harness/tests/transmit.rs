@@ -81,7 +81,7 @@ fn as_many_blocks_are_damaged_as_asked() {
     let clean = bits_in(&sent(&program, &["1986-01-01", "12:34", "2", "20"]));
     let mut places = Vec::new();
     for damaged in ["0", "1", "7", "100", "600"] {
-        for seed in ["1", "2", "0", "1000000"] {
+        for seed in ["1", "2", "0", "9999999"] {
             let arguments = ["1986-01-01", "12:34", "2", "20", damaged, seed];
             let bits = bits_in(&sent(&program, &arguments));
             assert_eq!(bits, bits_in(&sent(&program, &arguments)), "{arguments:?}");

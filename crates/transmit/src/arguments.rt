@@ -47,7 +47,7 @@ fn two_digits(a: u8, b: u8) -> u8 {
     tens * 10 + ones
 }
 
-// The number that digits write, up to about a million.
+// The number that up to seven digits write.
 fn number_of(text: &[u8]) -> Number {
     let mut n: u32 = 0;
     let mut i: usize = 0;
@@ -56,7 +56,7 @@ fn number_of(text: &[u8]) -> Number {
         if 9 < d {
             return Number::None;
         }
-        if 100_000 < n {
+        if 1_000_000 < n {
             return Number::None;
         }
         n = n * 10 + d as u32;
@@ -202,7 +202,7 @@ fn feed_from(record: Record, count: usize) -> Asked {
         return complain(b"DAMAGED: expected a number of blocks, from 0 to thirty times MINUTES");
     }
     let Number::Of(seed) = number_or(6, count, 1) else {
-        return complain(b"SEED: expected a number from 0 to 1000000");
+        return complain(b"SEED: expected a number from 0 to 9999999");
     };
     Asked::Feed {
         record,

@@ -1,4 +1,4 @@
--- `number_of` is safe and ends: a number is lengthened by a digit only while it is at most 100,000.
+-- `number_of` is safe and ends: a number is lengthened by a digit only while it is at most 1,000,000.
 -- Assumes nothing.
 use Prim.Native.Nat.{_≤_, _-_}
 use native.Mathlib.Omega.{arith}
