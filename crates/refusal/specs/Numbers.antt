@@ -1,10 +1,10 @@
--- The numbers of the refusals (01, "Numbers given when something is refused").
+-- The numbers of the refusals (01, "Numbers given when something is refused"; 02, No. 10).
 -- Assumes nothing.
 use Prim.Native.Nat.{ℕ}
 use Rattle.refusal.specs.declared.Refusal.{Refusal}
-use Rattle.refusal.specs.declared.Refusal.the-variants.{NotABit, WrongLength, WrongPrefix, WrongCheckWord, NotARecord, OutOfRange, NotInYear, WrongYear, RunTooLong, Improper}
+use Rattle.refusal.specs.declared.Refusal.the-variants.{NotABit, WrongLength, WrongPrefix, WrongCheckWord, NotARecord, OutOfRange, NotInYear, WrongYear, RunTooLong, Improper, WrongSize, WrongFixedBits, NoCodeword, WrongCrc}
 
--- each row of the table, in its order; 0 is left for "not refused"
+-- each row of the table, in its order, then those of the requests; 0 is left for "not refused"
 abbrev pub numberOf : Refusal → ℕ
 numberOf NotABit = 1
 numberOf WrongLength = 2
@@ -16,3 +16,7 @@ numberOf NotInYear = 7
 numberOf WrongYear = 8
 numberOf RunTooLong = 9
 numberOf Improper = 10
+numberOf WrongSize = 19
+numberOf WrongFixedBits = 20
+numberOf NoCodeword = 21
+numberOf WrongCrc = 22

@@ -1,4 +1,5 @@
-// Why something is refused: one case for each row of document 01, "Numbers given when something is refused".
+// Why something is refused: one case for each row of document 01, "Numbers given when something is refused", and for each
+// refusal of document 02's requests that are built.
 ghost use mathlib.Core.Path.{_≡_};
 ghost use Rattle.refusal.specs.Numbers.{numberOf};
 
@@ -23,9 +24,17 @@ pub enum Refusal {
     RunTooLong,
     // The lent state is not proper.
     Improper,
+    // A frame is not 12 long, or a field to be written is too wide.
+    WrongSize,
+    // A fixed bit of a frame is wrong.
+    WrongFixedBits,
+    // No codeword differs from a frame's symbols in at most three places.
+    NoCodeword,
+    // The CRC does not agree with the mended bytes.
+    WrongCrc,
 }
 
-// The number that document 01 gives the refusal.
+// The number that the documents give the refusal.
 pub fn number(refusal: Refusal) -> u8
     ensures { λ r. ⌜ r ≡ numberOf refusal ⌝ }
 {
@@ -40,5 +49,9 @@ pub fn number(refusal: Refusal) -> u8
         Refusal::WrongYear => 8,
         Refusal::RunTooLong => 9,
         Refusal::Improper => 10,
+        Refusal::WrongSize => 19,
+        Refusal::WrongFixedBits => 20,
+        Refusal::NoCodeword => 21,
+        Refusal::WrongCrc => 22,
     }
 }
