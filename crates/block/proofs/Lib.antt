@@ -9,3 +9,4 @@ pub mod RoundTrip
 pub mod Taken
 pub mod Inverted
 pub mod Determined
+pub mod Either

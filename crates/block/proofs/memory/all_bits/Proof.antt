@@ -1,15 +1,14 @@
 -- `all_bits` meets its contract. The loop's invariant: the test of what was seen and the test of what is left make the whole test.
 -- Assumes nothing.
-use mathlib.Core.Bool.{Bool, true, false, _&&_}
+use mathlib.Core.Bool.{_&&_}
 use mathlib.Core.List.{List}
 use mathlib.Core.Path.{_≡_, refl, sym, ap, _∙_}
 use Prim.Native.Nat.{ℕ, _≤_, _+_, _-_}
 use native.Mathlib.Omega.{arith}
-use borrow.Author.Tests.{lt-ltb, le-ltb, ltb-true, ltb-false}
-use lib.Bits.{bitOr, or-lt, or-comm, or-add-and, and-le-r}
 use lib.Dec.{ltb}
 use lib.ListN.{length, getD, drop, drop-of-length-le}
 use Rattle.block.specs.Bits.{areBits}
+use Rattle.block.proofs.Either.{or-test, and-true}
 use Rattle.block.proofs.Strings.{next}
 use Rattle.block.proofs.memory.all_bits.Statement.{statement}
 use Rattle.block.proofs.memory.all_bits.Tie as tie
@@ -19,22 +18,6 @@ Inv-loop s any₀ i₀ any i = (i ≤ length s) × (ltb any 2 && areBits (drop i
 
 abbrev μ-loop : tie.MeasureT-loop
 μ-loop s any₀ i₀ any i = length s - i
-
-or-ge : (a b : ℕ) → a ≤ bitOr a b
-or-ge a b = omega (arith, or-add-and a b, and-le-r a b)
-
--- a number that holds two of them is a bit where both are
-or-test : (a b : ℕ) (t : Bool) → ltb (bitOr a b) 2 && t ≡ ltb a 2 && (ltb b 2 && t)
-or-test a b t = go (ltb a 2) refl (ltb b 2) refl
-  where
-    go : (x : Bool) → ltb a 2 ≡ x → (y : Bool) → ltb b 2 ≡ y → ltb (bitOr a b) 2 && t ≡ x && (y && t)
-    go false p y q = ap (λ (x : Bool). x && t) (le-ltb (bitOr a b) 2 (omega (arith, or-ge a b, ltb-false a 2 p)))
-    go true p false q = ap (λ (x : Bool). x && t) (le-ltb (bitOr a b) 2 (omega (arith, or-ge b a, or-comm a b, ltb-false b 2 q)))
-    go true p true q = ap (λ (x : Bool). x && t) (lt-ltb (bitOr a b) 2 (or-lt 1 a b (ltb-true a 2 p) (ltb-true b 2 q)))
-
-and-true : (t : Bool) → t && true ≡ t
-and-true true = refl
-and-true false = refl
 
 loop-holds : tie.Need-loop-holds Inv-loop μ-loop
 loop-holds c = (omega arith, refl)
