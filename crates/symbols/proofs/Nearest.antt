@@ -1,0 +1,135 @@
+-- A word and what its check symbols miss have the same power sums, so what explains these takes the word to a codeword, and a codeword near
+-- the word would explain them.
+-- Assumes nothing.
+use mathlib.Core.List.{List, [], _∷_, _++_}
+use mathlib.Core.Path.{_≡_, refl, sym, ap, ap₂, _∙_, subst}
+use Prim.Native.Nat.{ℕ, zero, suc, _+_, _/_, _%_, _^_, _<_, _≤_}
+use native.Mathlib.Nat.{div-add-mod'}
+use native.Mathlib.Omega.{arith}
+use lib.Bits.{bitXor, xor-self, xor-zero-r}
+use lib.ListN.{length}
+use Rattle.block.specs.Bits.{xors}
+use Rattle.block.proofs.Xor.{xor-cancel, xor-eq}
+use Rattle.symbols.specs.Code.{Symbols, aTo, at, Codeword, differing, Near, checksOf}
+use Rattle.symbols.specs.Digits.{digits}
+use Rattle.symbols.specs.Field.{times, power}
+use Rattle.symbols.specs.Search.{sumsFrom, sixSums, takeAway, Second, Pair, weight, Mistakes}
+use Rattle.symbols.proofs.Complete.{pair-missed}
+use Rattle.symbols.proofs.Digits.{length-digits, symbols-digits, digits-low, digits-append, digits-xor}
+use Rattle.symbols.proofs.Encoder.{at-append, encoded, length-checks}
+use Rattle.symbols.proofs.Placed.{weight-self}
+use Rattle.symbols.proofs.Unique.{differing-weight}
+use Rattle.symbols.proofs.Words.{length-xors, symbols-xors, at-xors}
+
+-- power sums are the same where the values are, and only there
+sums-same : (n k : ℕ) (u v : List ℕ) → ((j : ℕ) → n ≤ j → j < n + k → at (aTo j) u ≡ at (aTo j) v) → sumsFrom n k u ≡ sumsFrom n k v
+unfolding sumsFrom
+sums-same n zero u v f = refl
+sums-same n (suc k) u v f =
+    ap₂ (λ (x : ℕ) (l : List ℕ). x ∷ l) (f n (omega arith) (omega arith)) (sums-same (suc n) k u v (λ j p q. f j (omega arith) (omega arith)))
+
+sums-at : (n k : ℕ) (u v : List ℕ) → sumsFrom n k u ≡ sumsFrom n k v → (i : ℕ) → i < k → at (aTo (i + n)) u ≡ at (aTo (i + n)) v
+unfolding sumsFrom
+sums-at n zero u v e i h = absurd (omega arith)
+sums-at n (suc k) u v e zero h =
+    let z : 0 + n ≡ n = omega arith in
+    rw z (let d : at (aTo n) u ≡ at (aTo n) v = cc in d)
+sums-at n (suc k) u v e (suc i) h =
+    let z : suc i + n ≡ i + suc n = omega arith in
+    rw z (sums-at (suc n) k u v (cc) i (omega arith))
+
+six-at : (u v : List ℕ) → sixSums u ≡ sixSums v → (j : ℕ) → 1 ≤ j → j ≤ 6 → at (aTo j) u ≡ at (aTo j) v
+six-at u v e zero p q = absurd (omega arith)
+six-at u v e (suc j) p q = let z : j + 1 ≡ suc j = omega arith in rw z at (sums-at 1 6 u v e j (omega arith))
+
+xors-cancel : (u v : List ℕ) → length u ≡ length v → xors u (xors u v) ≡ v
+unfolding xors
+xors-cancel [] [] e = refl
+xors-cancel [] (c ∷ cs) e = absurd (omega arith)
+xors-cancel (b ∷ bs) [] e = absurd (omega arith)
+xors-cancel (b ∷ bs) (c ∷ cs) e = ap₂ (λ (x : ℕ) (l : List ℕ). x ∷ l) (xor-cancel b c) (xors-cancel bs cs (omega arith))
+
+-- a codeword added changes no power sum
+code-adds-nothing : (w c : List ℕ) → length w ≡ 15 → Codeword c → sixSums (xors w c) ≡ sixSums w
+code-adds-nothing w c l p =
+    sums-same 1 6 (xors w c) w
+    (λ j i k. at-xors (aTo j) w c (l ∙ sym (p .size)) ∙ ap (bitXor (at (aTo j) w)) (p .roots j i (omega arith)) ∙ xor-zero-r (at (aTo j) w))
+
+-- nine symbols with six others miss what their check symbols differ by
+missing : (nine six : List ℕ) → length nine ≡ 9 → Symbols nine → length six ≡ 6 → sixSums (nine ++ six) ≡ sixSums (xors (checksOf nine) six)
+missing nine six l s k =
+    sums-same 1 6 (nine ++ six) (xors (checksOf nine) six)
+    (λ j p q.
+    let X : ℕ = aTo j in
+    let c : List ℕ = checksOf nine in
+    let n : ℕ = times (at X nine) (power X 6) in
+    let lc : length c ≡ 6 = length-checks nine in
+    let good : bitXor n (at X c) ≡ 0 = ap (λ (m : ℕ). bitXor (times (at X nine) (power X m)) (at X c)) (sym lc) ∙ sym (at-append X nine c) ∙ encoded nine l s .roots j p (omega arith) in
+    at-append X nine six ∙ ap (λ (m : ℕ). bitXor (times (at X nine) (power X m)) (at X six)) k
+    ∙ ap (λ (m : ℕ). bitXor m (at X six)) (xor-eq n (at X c) good) ∙ sym (at-xors X c six (lc ∙ sym k)))
+
+-- a word of fifteen symbols in one number
+module _ (word : ℕ) where
+  abbrev received : ℕ
+  received = word % 2 ^ 60
+
+  abbrev nine : List ℕ
+  nine = digits 4 9 (received / 2 ^ 24)
+
+  abbrev six : List ℕ
+  six = digits 4 6 (received % 2 ^ 24)
+
+  as-received : digits 4 15 word ≡ digits 4 15 received
+  as-received = sym (digits-low 4 15 word)
+
+  in-two : digits 4 15 received ≡ nine ++ six
+  in-two = ap (digits 4 15) (sym (div-add-mod' received (2 ^ 24))) ∙ digits-append 4 9 6 (received / 2 ^ 24) (received % 2 ^ 24) (omega arith)
+
+  module _ (checks : ℕ) (e : digits 4 6 checks ≡ checksOf nine) where
+    pub same-sums : sixSums (digits 4 15 word) ≡ sixSums (digits 4 6 (bitXor checks (received % 2 ^ 24)))
+    same-sums =
+        ap sixSums (as-received ∙ in-two) ∙ missing nine six (length-digits 4 9 (received / 2 ^ 24)) (symbols-digits 9 (received / 2 ^ 24)) (length-digits 4 6 (received % 2 ^ 24))
+        ∙ ap sixSums (ap (λ (l : List ℕ). xors l six) (sym e) ∙ sym (digits-xor 4 6 checks (received % 2 ^ 24)))
+
+    -- nothing is missing: the word is a codeword
+    pub whole-near : bitXor checks (received % 2 ^ 24) ≡ 0 → Near (digits 4 15 word) (digits 4 15 received)
+    whole-near z =
+        let l : List ℕ = digits 4 15 received in
+        let c : digits 4 15 received ≡ nine ++ checksOf nine = in-two ∙ ap (λ (m : ℕ). nine ++ digits 4 6 m) (sym (xor-eq checks (received % 2 ^ 24) z)) ∙ ap (λ (l : List ℕ). nine ++ l) e in
+        record {
+          code = subst Codeword (sym c) (encoded nine (length-digits 4 9 (received / 2 ^ 24)) (symbols-digits 9 (received / 2 ^ 24)));
+          within = omega (arith, ap (λ (v : List ℕ). differing v l) as-received ∙ differing-weight l l refl ∙ weight-self l);
+        }
+
+    -- what explains the sums takes the word to a codeword
+    pub mended-near : (n : ℕ) → Mistakes (sixSums (digits 4 6 (bitXor checks (received % 2 ^ 24)))) n → Near (digits 4 15 word) (digits 4 15 (bitXor received n))
+    mended-near n m =
+        let w : List ℕ = digits 4 15 received in
+        let v : List ℕ = digits 4 15 n in
+        let lw : length w ≡ 15 = length-digits 4 15 received in
+        let lv : length v ≡ 15 = length-digits 4 15 n in
+        let x : digits 4 15 (bitXor received n) ≡ xors w v = digits-xor 4 15 received n in
+        let lx : length (xors w v) ≡ 15 = length-xors w v (lw ∙ sym lv) ∙ lw in
+        let s : sixSums v ≡ sixSums w = m .sums ∙ sym same-sums ∙ ap sixSums as-received in
+        let d : differing (digits 4 15 word) (xors w v) ≡ weight v =
+        ap (λ (u : List ℕ). differing u (xors w v)) as-received ∙ differing-weight w (xors w v) (lw ∙ sym lx) ∙ ap weight (xors-cancel w v (lw ∙ sym lv)) in
+        rw x
+        (record {
+          code =
+              record {
+                size = lx;
+                symbols = symbols-xors w v (symbols-digits 15 received) (symbols-digits 15 n);
+                roots = λ j p q. at-xors (aTo j) w v (lw ∙ sym lv) ∙ ap (bitXor (at (aTo j) w)) (six-at v w s j p q) ∙ xor-self (at (aTo j) w);
+              };
+          within = omega (arith, d, m .few);
+        })
+
+    -- where no pair of places is found, no codeword is near
+    pub none-near : Pair (sixSums (digits 4 6 (bitXor checks (received % 2 ^ 24)))) 0 0 → (c : List ℕ) → Near (digits 4 15 word) c → ⊥
+    none-near p c q =
+        let w : List ℕ = digits 4 15 word in
+        let lw : length w ≡ 15 = length-digits 4 15 word in
+        let l : length w ≡ length c = lw ∙ sym (q .code .size) in
+        let s : sixSums (xors w c) ≡ sixSums (digits 4 6 (bitXor checks (received % 2 ^ 24))) = code-adds-nothing w c lw (q .code) ∙ same-sums in
+        pair-missed (xors w c) (length-xors w c l ∙ lw)
+        (λ z h k. subst (λ (t : List ℕ). Second (takeAway z t) z 0) (sym s) (p .none refl z h k)) (omega (arith, differing-weight w c l, q .within))
