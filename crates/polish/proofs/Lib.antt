@@ -1,0 +1,10 @@
+pub mod Bounds
+pub mod Register
+pub mod Parts
+pub mod Behind
+pub mod RoundTrip
+pub mod FixedBits
+pub mod Determined
+pub mod Mismatch
+pub mod Mending
+pub mod Flips

@@ -1,0 +1,112 @@
+-- Times, bodies and frames, there and back: each field has its own place in the body, and each part its own in the frame.
+-- Assumes nothing.
+use mathlib.Core.Bool.{true}
+use mathlib.Core.List.{List, _++_}
+use mathlib.Core.Path.{_≡_, refl, sym, ap, _∙_, subst}
+use Prim.Native.Nat.{ℕ, _+_, _*_, _/_, _%_, _^_, _<_}
+use native.Mathlib.Omega.{arith}
+use lib.Bits.{bitXor, xor-lt, xor-shr}
+use lib.ListN.{length, getD}
+use lib.Seq.{take-at}
+use Rattle.symbols.specs.Code.{Codeword, checksOf}
+use Rattle.symbols.specs.Digits.{digits, number}
+use Rattle.symbols.proofs.Digits.{below-symbols, length-digits, symbols-digits, number-digits, number-lt, digits-number}
+use Rattle.symbols.proofs.Encoder.{length-checks, symbols-checks, encoded}
+use Rattle.symbols.proofs.Words.{xor-twice}
+use Rattle.polish.specs.Frame.{key, plainOf, bodyOf, timeIn, symbolsIn, crcOfBody, framed, bodyIn, checksIn, crcIn, Fixed, wordOf, mendedTo}
+use Rattle.polish.specs.Write.{fitting}
+use Rattle.polish.specs.declared.Time.{Time}
+use Rattle.polish.proofs.Bounds.{bounds}
+use Rattle.polish.proofs.Parts.{three-bytes, five-bytes, twelve, frame-bytes}
+
+-- ---- times and bodies
+
+module _ (time : Time) (h : fitting time ≡ true) where
+  -- a body tells the time that it was made of
+  pub time-back : timeIn (bodyOf time) ≡ time
+  unfolding timeIn bodyOf
+  time-back =
+      let b = bounds time h in
+      let n = plainOf time in
+      let periods : n / 2 ^ 7 % 2 ^ 30 ≡ time .periods = omega arith in
+      let tz0 : n / 64 % 2 ≡ time .tz0 = omega arith in
+      let tz1 : n / 32 % 2 ≡ time .tz1 = omega arith in
+      let ls : n / 16 % 2 ≡ time .ls = omega arith in
+      let lss : n / 8 % 2 ≡ time .lss = omega arith in
+      let tzc : n / 4 % 2 ≡ time .tzc = omega arith in
+      let sk0 : n / 2 % 2 ≡ time .sk0 = omega arith in
+      let sk1 : n % 2 ≡ time .sk1 = omega arith in
+      rw (xor-twice n key, periods, tz0, tz1, ls, lss, tzc, sk0, sk1)
+
+  pub body-lt : bodyOf time < 2 ^ 40
+  unfolding bodyOf
+  body-lt = let b = bounds time h in xor-lt 40 (plainOf time) key (omega arith) (omega arith)
+
+  -- the key leaves the three fixed bits as they are
+  pub body-top : bodyOf time / 2 ^ 37 ≡ 5
+  unfolding bodyOf
+  body-top =
+      let b = bounds time h in
+      let top : plainOf time / 2 ^ 37 ≡ 5 = omega arith in
+      xor-shr (plainOf time) key 37 ∙ ap (λ (n : ℕ). bitXor n 0) top
+
+-- ---- bodies and frames
+
+-- a body with its own symbols put in is itself
+pub mended-same : (body checks : ℕ) → body < 2 ^ 40 → body / 2 ^ 37 ≡ 5 → mendedTo (wordOf body checks) body ≡ body
+unfolding mendedTo
+mended-same body checks h t =
+    ap (λ (l : List ℕ). 5 * 2 ^ 37 + number 4 l * 2 + body % 2) (take-at (symbolsIn body) (digits 4 6 checks) 9 (length-digits 4 9 (body / 2)))
+    ∙ ap (λ (n : ℕ). 5 * 2 ^ 37 + n * 2 + body % 2) (number-digits 4 9 (body / 2)) ∙ omega arith
+
+module _ (body : ℕ) where
+  -- the check symbols in one number
+  abbrev six : ℕ
+  six = number 4 (checksOf (symbolsIn body))
+
+  six-lt : six < 2 ^ 24
+  six-lt =
+      let checks = checksOf (symbolsIn body) in
+      subst (λ (k : ℕ). six < 2 ^ (4 * k)) (length-checks (symbolsIn body)) (number-lt 4 checks (below-symbols checks (symbols-checks (symbolsIn body))))
+
+  six-digits : digits 4 6 six ≡ checksOf (symbolsIn body)
+  six-digits =
+      let checks = checksOf (symbolsIn body) in
+      subst (λ (k : ℕ). digits 4 k six ≡ checks) (length-checks (symbolsIn body)) (digits-number 4 checks (below-symbols checks (symbols-checks (symbolsIn body))))
+
+  listed : framed body ≡ twelve body six (crcOfBody body)
+  listed = sym (frame-bytes body six (crcOfBody body) six-lt six-digits refl)
+
+  pub framed-length : length (framed body) ≡ 12
+  framed-length = ap length listed
+
+  pub framed-crc : crcIn (framed body) ≡ crcOfBody body
+  framed-crc = ap (λ (l : List ℕ). getD l 11 0) listed
+
+  pub framed-fixed : body < 2 ^ 40 → body / 2 ^ 37 ≡ 5 → Fixed (framed body)
+  framed-fixed h t =
+      let fourth : body / 0x100000000 % 256 / 32 ≡ 5 = omega arith in
+      record {
+        first = ap (λ (l : List ℕ). getD l 0 0) listed;
+        second = ap (λ (l : List ℕ). getD l 1 0) listed;
+        third = ap (λ (l : List ℕ). getD l 2 0) listed;
+        fourth = ap (λ (l : List ℕ). getD l 3 0 / 32) listed ∙ fourth;
+      }
+
+  pub framed-body : body < 2 ^ 40 → bodyIn (framed body) ≡ body
+  unfolding bodyIn
+  framed-body h =
+      let low : body % 2 ^ 40 ≡ body = omega arith in
+      ap bodyIn listed ∙ ap (number 8) (sym (five-bytes body)) ∙ number-digits 8 5 body ∙ low
+
+  pub framed-checks : checksIn (framed body) ≡ number 4 (checksOf (symbolsIn body))
+  unfolding checksIn
+  framed-checks =
+      let low : six % 2 ^ 24 ≡ six = omega (arith, six-lt) in
+      ap checksIn listed ∙ ap (number 8) (sym (three-bytes six)) ∙ number-digits 8 3 six ∙ low
+
+  -- the fifteen symbols of a frame as written are a codeword
+  pub framed-word : Codeword (wordOf body (checksIn (framed body)))
+  framed-word =
+      subst (λ (l : List ℕ). Codeword (symbolsIn body ++ l)) (sym six-digits ∙ ap (digits 4 6) (sym framed-checks))
+      (encoded (symbolsIn body) (length-digits 4 9 (body / 2)) (symbols-digits 9 (body / 2)))

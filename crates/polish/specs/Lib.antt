@@ -1,0 +1,4 @@
+pub mod Crc
+pub mod Frame
+pub mod Read
+pub mod Write
