@@ -1,7 +1,8 @@
 /* The long-wave radio-data receiver, as C calls it.
  *
  * In memory a bit is a byte of value 0 or 1, first sent bit first. A block is
- * 50 of them: prefix 1, code 4, word 32, check word 13.
+ * 50 of them: prefix 1, code 4, word 32, check word 13. The Polish frame alone
+ * is otherwise: it is 12 whole bytes of eight bits each, first sent bit highest.
  *
  * No call keeps a pointer. A pointer must not be null, not even with length 0,
  * and must be valid for the length beside it; what is lent for writing must
@@ -25,17 +26,21 @@ extern "C" {
 /* Why a call was refused. One list serves all calls; each call says below
  * which of these it gives, in the order in which it tests them. */
 enum {
-    LW_OK = 0,               /* not refused */
-    LW_NOT_A_BIT = 1,        /* a bit is neither 0 nor 1 */
-    LW_WRONG_LENGTH = 2,     /* a block slice is not 50 long */
-    LW_WRONG_PREFIX = 3,     /* the prefix is 0 */
-    LW_WRONG_CHECK_WORD = 4, /* the check word is not the remainder */
-    LW_NOT_A_RECORD = 5,     /* code not 0, or a filler, where a record is read */
-    LW_OUT_OF_RANGE = 6,     /* a field, code, month or day is out of range */
-    LW_NOT_IN_YEAR = 7,      /* the day is not in its year, or falls in week 54 */
-    LW_WRONG_YEAR = 8,       /* the first of the 28 years, or a written year, is out of range */
-    LW_RUN_TOO_LONG = 9,     /* a run is longer than 65,536 bits */
-    LW_IMPROPER = 10         /* the lent state is not proper */
+    LW_OK = 0,                /* not refused */
+    LW_NOT_A_BIT = 1,         /* a bit is neither 0 nor 1 */
+    LW_WRONG_LENGTH = 2,      /* a block slice is not 50 long */
+    LW_WRONG_PREFIX = 3,      /* the prefix is 0 */
+    LW_WRONG_CHECK_WORD = 4,  /* the check word is not the remainder */
+    LW_NOT_A_RECORD = 5,      /* code not 0, or a filler, where a record is read */
+    LW_OUT_OF_RANGE = 6,      /* a field, code, month or day is out of range */
+    LW_NOT_IN_YEAR = 7,       /* the day is not in its year, or falls in week 54 */
+    LW_WRONG_YEAR = 8,        /* the first of the 28 years, or a written year, is out of range */
+    LW_RUN_TOO_LONG = 9,      /* a run is longer than 65,536 bits */
+    LW_IMPROPER = 10,         /* the lent state is not proper */
+    LW_WRONG_SIZE = 19,       /* a frame is not 12 long, or a field to be written is too wide */
+    LW_WRONG_FIXED_BITS = 20, /* a fixed bit of a frame is wrong */
+    LW_NO_CODEWORD = 21,      /* no codeword differs from a frame's symbols in at most three */
+    LW_WRONG_CRC = 22         /* the CRC byte does not agree with the mended bytes */
 };
 
 /* What was read; code and word are 0 where refused. */
@@ -177,6 +182,46 @@ lw_counts lw_feed(lw_state *state, uint8_t bit);
  * Refusals, in this order: 9, 10, and the state then stays as it is; or 1 at a
  * bit that is none, and state and counts are then those of the bits before it. */
 lw_counts lw_run(lw_state *state, const uint8_t *bits, size_t len);
+
+/* What a Polish frame tells, the time signal on 225 kHz. The seven fields behind
+ * the count are one bit each. Where two of them belong together, a table gives
+ * their meaning; they make no number:
+ *
+ *     tz0 tz1  to be added for local time    sk0 sk1  the transmitter
+ *      0   0   nothing                        0   0   works
+ *      1   0   1 hour                         1   0   is to be off for a day
+ *      0   1   2 hours                        0   1   for a week
+ *      1   1   3 hours                        1   1   for longer
+ */
+typedef struct lw_polish {
+    uint32_t periods; /* three-second periods since 1 January 2000, 0 to 1,073,741,823 */
+    uint8_t tz0;      /* the offset of local time; never applied */
+    uint8_t tz1;
+    uint8_t ls;       /* 1: a leap second is announced */
+    uint8_t lss;      /* its sign: 0 a second is added, 1 one is left out */
+    uint8_t tzc;      /* 1: local time changes next Sunday at 1:00 UTC */
+    uint8_t sk0;      /* the state of the transmitter */
+    uint8_t sk1;
+} lw_polish;
+
+/* What was read; the time is all 0 where refused. */
+typedef struct lw_polish_answer {
+    uint8_t refusal;
+    struct lw_polish time;
+} lw_polish_answer;
+
+/* Reads a Polish frame from `len` bytes. Its fifteen symbols of four bits, nine
+ * from S0 to SK0 and six check symbols, are mended together exactly when a
+ * codeword differs from them in at most three; there is never more than one. SK1
+ * and the CRC byte are not among them and are never mended, and the CRC byte
+ * must agree with the mended bytes.
+ * Refusals, in this order: 19, 20, 21, 22. The bytes stay as they are. */
+lw_polish_answer lw_read_polish(const uint8_t *frame, size_t len);
+
+/* Writes the frame of a time over all 12 bytes, whatever they held. Answers 0,
+ * or 19 where `len` is not 12, the count has more than 30 bits or another field
+ * more than one; the bytes then stay as they are. */
+uint8_t lw_write_polish(lw_polish time, uint8_t *frame, size_t len);
 
 /* Answers the library's version, as LW_VERSION tells the header's. */
 uint32_t lw_version(void);

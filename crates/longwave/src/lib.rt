@@ -5,7 +5,8 @@ ghost use Rattle.block.specs.Read.{readOf};
 ghost use Rattle.block.specs.Write.{writeOf, writtenOf, refusalOf};
 ghost use Rattle.calendar.specs.Dates.{dateOf, recordOf};
 ghost use Rattle.calendar.specs.NextMinute.{nextMinuteOf};
-ghost use Rattle.longwave.specs.Face.{blockFace, wordFace, recordFace, dateFace, versionOf};
+ghost use Rattle.longwave.specs.Face.{blockFace, wordFace, recordFace, dateFace, PolishReads, versionOf};
+ghost use Rattle.polish.specs.Write as polish;
 ghost use Rattle.receiver.specs.Runs.{fedOf, runOf};
 ghost use Rattle.receiver.specs.States.{freshOf};
 ghost use Rattle.record.specs.Words as words;
@@ -15,6 +16,7 @@ use block::Read;
 use block::Written;
 use calendar::Date;
 use calendar::Dated;
+use polish::Time;
 use receiver::Counts;
 use receiver::State;
 use record::Record;
@@ -186,6 +188,46 @@ pub extern "C" fn lw_run(state: &mut State, bits: &[u8]) -> Counts
     let ran = receiver::run(*state, bits);
     *state = ran.state;
     ran.counts
+}
+
+// What reading a Polish frame answers, zeros where refused.
+#[repr(C)]
+pub struct PolishAnswer {
+    pub refusal: u8,
+    pub time: Time,
+}
+
+#[no_mangle]
+pub extern "C" fn lw_read_polish(frame: &[u8]) -> PolishAnswer
+    ensures { λ r. ⌜ PolishReads (now (frame .entry)) r ⌝ }
+{
+    match polish::read_frame(frame) {
+        polish::Read::Told(time) => PolishAnswer { refusal: 0, time },
+        polish::Read::Refused(refusal) => PolishAnswer {
+            refusal: refusal::number(refusal),
+            time: Time {
+                periods: 0,
+                tz0: 0,
+                tz1: 0,
+                ls: 0,
+                lss: 0,
+                tzc: 0,
+                sk0: 0,
+                sk1: 0,
+            },
+        },
+    }
+}
+
+// The refusal's number, 0 where the frame is written.
+#[no_mangle]
+pub extern "C" fn lw_write_polish(time: Time, frame: &mut [u8]) -> u8
+    ensures { λ r. ⌜ (r ≡ polish.refusalOf (polish.writeOf (length (now (frame .entry))) time)) × (now (frame .exit) ≡ polish.writtenOf (now (frame .entry)) time) ⌝ }
+{
+    match polish::write_frame(time, frame) {
+        polish::Written::Whole => 0,
+        polish::Written::Refused(refusal) => refusal::number(refusal),
+    }
 }
 
 // The library's version.
