@@ -1,9 +1,11 @@
 //! One call to the library and the same question to the independent program:
 //! answers and every lent byte must agree, and no byte beside them may change.
 
+mod polish;
 mod receiver;
 mod record;
 
+pub use polish::*;
 pub use receiver::*;
 pub use record::*;
 

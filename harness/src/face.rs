@@ -1,8 +1,10 @@
 //! Safe calls to the library, as `include/longwave.h` declares them.
 
+mod polish;
 mod receiver;
 mod record;
 
+pub use polish::*;
 pub use receiver::*;
 pub use record::*;
 

@@ -1,11 +1,12 @@
-//! The answers, written from document 01 alone. Here the block, by long division
-//! on one number; the record, the calendar and the receiver have files of
-//! their own.
+//! The answers, written from documents 01 and 02 alone. Here the block, by long
+//! division on one number; the record, the calendar, the receiver and the Polish
+//! frame have files of their own.
 //!
 //! A polynomial modulo 2 is a number, one bit for each power of x, and a block
 //! is its fifty bits as one number: bit 49 is the first sent.
 
 pub mod calendar;
+pub mod polish;
 pub mod receiver;
 pub mod record;
 

@@ -2,7 +2,8 @@
 
 use std::env;
 
-use crate::face::{Date, Record};
+use crate::face::{Date, Polish, Record};
+use crate::independent::polish::SYMBOLS;
 use crate::independent::{bits_of, block, calendar, BLOCK};
 
 /// The seed: `HARNESS_SEED` if it is set, else a fixed one.
@@ -87,11 +88,16 @@ impl Random {
 
     /// A change of exactly `count` of a block's places.
     pub fn change(&mut self, count: usize) -> u64 {
-        let mut change: u64 = 0;
-        while change.count_ones() < count as u32 {
-            change |= 1 << self.below(BLOCK);
+        self.places(count, BLOCK)
+    }
+
+    /// Exactly `count` of so many places, as the ones of a number.
+    fn places(&mut self, count: usize, all: usize) -> u64 {
+        let mut places: u64 = 0;
+        while places.count_ones() < count as u32 {
+            places |= 1 << self.below(all);
         }
-        change
+        places
     }
 
     /// An offset in its range, -32 to 31.
@@ -127,6 +133,20 @@ impl Random {
             minute: self.between(0, 59),
             offset: self.offset(),
         }
+    }
+
+    /// A time for the Polish frame.
+    pub fn polish(&mut self) -> Polish {
+        let number = self.number();
+        let flags = std::array::from_fn(|place| (number >> place & 1) as u8);
+        Polish::of_bytes((number >> 34) as u32, flags)
+    }
+
+    /// A pattern of exactly `count` wrong symbols of a codeword.
+    pub fn pattern(&mut self, count: usize) -> u64 {
+        let places = self.places(count, SYMBOLS);
+        let wrong = (0..SYMBOLS).filter(|place| places >> place & 1 != 0);
+        wrong.fold(0, |pattern, place| pattern | u64::from(self.between(1, 15)) << (4 * place))
     }
 
     /// The same with one byte, whichever, of any value.

@@ -1,4 +1,4 @@
-//! Document 01's numbers for what is refused.
+//! The numbers of documents 01 and 02 for what is refused.
 
 pub const NOT_A_BIT: u8 = 1;
 pub const WRONG_LENGTH: u8 = 2;
@@ -10,3 +10,7 @@ pub const NOT_IN_YEAR: u8 = 7;
 pub const WRONG_YEAR: u8 = 8;
 pub const RUN_TOO_LONG: u8 = 9;
 pub const IMPROPER: u8 = 10;
+pub const WRONG_SIZE: u8 = 19;
+pub const WRONG_FIXED_BITS: u8 = 20;
+pub const NO_CODEWORD: u8 = 21;
+pub const WRONG_CRC: u8 = 22;

@@ -8,7 +8,9 @@ use harness::program::project;
 #[test]
 fn one_version_everywhere() {
     let changes = fs::read_to_string(project("CHANGELOG.md")).expect("a list of changes");
-    let newest = changes.lines().find_map(|line| line.strip_prefix("## ")).expect("a version");
+    let mut titles = changes.lines().filter_map(|line| line.strip_prefix("## "));
+    // What was added since the last release has no number yet.
+    let newest = titles.find(|&title| title != "Unreleased").expect("a version");
     let parts = newest.split_whitespace().next().expect("a version").split('.');
     let number =
         parts.fold(0, |number, part| number * 100 + part.parse::<u32>().expect("a number"));

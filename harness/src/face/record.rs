@@ -71,7 +71,7 @@ pub struct Dated {
 }
 
 /// What an answer holds: 0 and the value, or the refusal and zeros.
-fn parts<T: Default>(answer: Result<T, u8>) -> (u8, T) {
+pub(super) fn parts<T: Default>(answer: Result<T, u8>) -> (u8, T) {
     match answer {
         Ok(value) => (0, value),
         Err(refusal) => (refusal, T::default()),

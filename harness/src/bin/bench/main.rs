@@ -6,6 +6,8 @@ mod bitwise;
 mod blocks;
 mod contest;
 mod in_place;
+mod polish;
+mod polish_table;
 mod program;
 mod receiver;
 mod stepwise;
@@ -21,6 +23,7 @@ fn main() {
             println!("bench: seed {}", seed());
             blocks::measure();
             receiver::measure();
+            polish::measure();
             program::measure();
         }
         // The program by hand, which has to be a process of its own.
