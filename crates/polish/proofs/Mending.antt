@@ -1,15 +1,14 @@
 -- What is written reads back, also with up to three wrong symbols, since the written symbols are the one codeword near; and what is farther from every codeword is never told.
 -- Assumes nothing.
-use borrow.Author.Tests.{eq-eqb}
 use mathlib.Core.Bool.{true}
-use mathlib.Core.List.{List, [], _∷_}
+use mathlib.Core.List.{List}
 use mathlib.Core.Path.{_≡_, refl, sym, ap, _∙_}
 use Prim.Native.Nat.{ℕ, _+_, _*_, _%_, _^_, _≤_, _<_}
 use native.Mathlib.Omega.{arith}
 use lib.ListN.{length, take}
 use Rattle.symbols.specs.Code.{Codeword, Near, differing}
 use Rattle.symbols.specs.Digits.{number}
-use Rattle.symbols.proofs.Unique.{unique}
+use Rattle.symbols.proofs.Unique.{differing-self, unique}
 use Rattle.polish.specs.Frame.{bodyOf, timeIn, crcOfBody, bodyIn, checksIn, crcIn, Fixed, wordOf, mendedTo}
 use Rattle.polish.specs.Read.{Behind, none, wrong, right, Reads, size, fixed, behind}
 use Rattle.polish.specs.Write.{fitting, frameOf}
@@ -17,12 +16,6 @@ use Rattle.polish.specs.declared.Read.{Read}
 use Rattle.polish.specs.declared.Read.the-variants.{Told}
 use Rattle.polish.specs.declared.Time.{Time}
 use Rattle.polish.proofs.RoundTrip.{time-back, body-lt, body-top, mended-same, framed-length, framed-crc, framed-body, framed-fixed, framed-word}
-
--- a word differs from itself in no place
-same-word : (w : List ℕ) → differing w w ≡ 0
-unfolding differing
-same-word [] = refl
-same-word (c ∷ cs) = rw (eq-eqb c c refl) (same-word cs)
 
 -- the mended body takes nothing but SK1 from what was received
 same-sk1 : (codeword : List ℕ) (a b : ℕ) → a % 2 ≡ b % 2 → mendedTo codeword a ≡ mendedTo codeword b
@@ -65,7 +58,7 @@ module _ (time : Time) (h : fitting time ≡ true) where
       let same : bodyIn (frameOf time) ≡ body = framed-body body (body-lt time h) in
       let checks = checksIn (frameOf time) in
       let none-differs : differing (wordOf (bodyIn (frameOf time)) checks) (wordOf body checks) ≡ 0 =
-      ap (λ (b : ℕ). differing (wordOf b checks) (wordOf body checks)) same ∙ same-word (wordOf body checks) in
+      ap (λ (b : ℕ). differing (wordOf b checks) (wordOf body checks)) same ∙ differing-self (wordOf body checks) in
       mended-reads (frameOf time) (framed-length body) (framed-fixed body (body-lt time h) (body-top time h)) (ap (λ (b : ℕ). b % 2) same) refl
       (omega arith) reads
 

@@ -8,10 +8,11 @@ use native.Mathlib.Omega.{arith}
 use lib.Bits.{bitXor, xor-lt, xor-shr}
 use lib.ListN.{length, getD}
 use lib.Seq.{take-at}
-use Rattle.symbols.specs.Code.{Codeword, checksOf}
+use Rattle.symbols.specs.Code.{Codeword, checksOf, Checked}
 use Rattle.symbols.specs.Digits.{digits, number}
-use Rattle.symbols.proofs.Digits.{below-symbols, length-digits, symbols-digits, number-digits, number-lt, digits-number}
-use Rattle.symbols.proofs.Encoder.{length-checks, symbols-checks, encoded}
+use Rattle.symbols.proofs.Linear.{checked-number}
+use Rattle.symbols.proofs.Digits.{length-digits, symbols-digits, number-digits}
+use Rattle.symbols.proofs.Encoder.{encoded}
 use Rattle.symbols.proofs.Words.{xor-twice}
 use Rattle.polish.specs.Frame.{key, plainOf, bodyOf, timeIn, symbolsIn, crcOfBody, framed, bodyIn, checksIn, crcIn, Fixed, wordOf, mendedTo}
 use Rattle.polish.specs.Write.{fitting}
@@ -64,18 +65,11 @@ module _ (body : ℕ) where
   abbrev six : ℕ
   six = number 4 (checksOf (symbolsIn body))
 
-  six-lt : six < 2 ^ 24
-  six-lt =
-      let checks = checksOf (symbolsIn body) in
-      subst (λ (k : ℕ). six < 2 ^ (4 * k)) (length-checks (symbolsIn body)) (number-lt 4 checks (below-symbols checks (symbols-checks (symbolsIn body))))
-
-  six-digits : digits 4 6 six ≡ checksOf (symbolsIn body)
-  six-digits =
-      let checks = checksOf (symbolsIn body) in
-      subst (λ (k : ℕ). digits 4 k six ≡ checks) (length-checks (symbolsIn body)) (digits-number 4 checks (below-symbols checks (symbols-checks (symbolsIn body))))
+  checked : Checked (body / 2) six
+  checked = checked-number (body / 2)
 
   listed : framed body ≡ twelve body six (crcOfBody body)
-  listed = sym (frame-bytes body six (crcOfBody body) six-lt six-digits refl)
+  listed = sym (frame-bytes body six (crcOfBody body) (checked .small) (checked .are) refl)
 
   pub framed-length : length (framed body) ≡ 12
   framed-length = ap length listed
@@ -102,11 +96,11 @@ module _ (body : ℕ) where
   pub framed-checks : checksIn (framed body) ≡ number 4 (checksOf (symbolsIn body))
   unfolding checksIn
   framed-checks =
-      let low : six % 2 ^ 24 ≡ six = omega (arith, six-lt) in
+      let low : six % 2 ^ 24 ≡ six = omega (arith, checked .small) in
       ap checksIn listed ∙ ap (number 8) (sym (three-bytes six)) ∙ number-digits 8 3 six ∙ low
 
   -- the fifteen symbols of a frame as written are a codeword
   pub framed-word : Codeword (wordOf body (checksIn (framed body)))
   framed-word =
-      subst (λ (l : List ℕ). Codeword (symbolsIn body ++ l)) (sym six-digits ∙ ap (digits 4 6) (sym framed-checks))
+      subst (λ (l : List ℕ). Codeword (symbolsIn body ++ l)) (sym (checked .are) ∙ ap (digits 4 6) (sym framed-checks))
       (encoded (symbolsIn body) (length-digits 4 9 (body / 2)) (symbols-digits 9 (body / 2)))

@@ -2,10 +2,9 @@
 -- Assumes nothing.
 use mathlib.Core.Bool.{Bool, true, false, _&&_, _||_}
 use mathlib.Core.List.{List, [], _∷_}
-use mathlib.Core.Path.{_≡_, refl, sym, ap, ap₂, _∙_}
+use mathlib.Core.Path.{_≡_, refl, sym, ap, ap₂, _∙_, subst, subst⁻¹}
 use Prim.Native.Nat.{ℕ}
 use borrow.Author.Tests.{eqb-true, eq-eqb}
-use native.Mathlib.Omega.{arith}
 use lib.Bits.{bitXor, xor-comm, xor-self, xor-zero-l, xor-zero-r}
 use lib.Dec.{eqb}
 use lib.ListN.{length, getD}
@@ -13,6 +12,7 @@ use Rattle.block.proofs.Xor.{xor-assoc, xor-swap, xor-cancel}
 use Rattle.symbols.specs.Field.{times}
 use Rattle.symbols.specs.Search.{takeAway, goesOn, thirdOf, apart, fits, minorOf, minorsOf, twoPlaces, mayBe}
 use Rattle.symbols.proofs.Elements.{times-comm, times-assoc, times-xor, xor-times, times-zero}
+use Rattle.symbols.proofs.Sums.{written-out}
 use Rattle.symbols.proofs.Words.{xor-twice, times-swap}
 use Rattle.symbols.proofs.Complete.{true-false}
 
@@ -121,19 +121,12 @@ module _ (y z a b c d e : ℕ) where
         may = eq-eqb (times y (bitXor (times y o) sum)) product (root-of y z a b c d e r s);
       }
 
--- what holds of every list of five written out holds of each list of length five
-on-five : (P : List ℕ → Type 0) → ((a b c d e : ℕ) → P (a ∷ b ∷ c ∷ d ∷ e ∷ [])) → (t : List ℕ) → length t ≡ 5 → P t
-on-five P p (a ∷ b ∷ c ∷ d ∷ e ∷ []) l = p a b c d e
-on-five P p [] l = absurd (omega arith)
-on-five P p (a ∷ []) l = absurd (omega arith)
-on-five P p (a ∷ b ∷ []) l = absurd (omega arith)
-on-five P p (a ∷ b ∷ c ∷ []) l = absurd (omega arith)
-on-five P p (a ∷ b ∷ c ∷ d ∷ []) l = absurd (omega arith)
-on-five P p (a ∷ b ∷ c ∷ d ∷ e ∷ f ∷ g) l = absurd (omega arith)
-
 pub passes : (x y : ℕ) (t : List ℕ) → length t ≡ 5 → fits x y (takeAway y t) ≡ true → Passes t y
 unfolding fits
 passes x y t l f =
     let u : List ℕ = takeAway y t in
-    on-five (λ t. goesOn (thirdOf u) (takeAway y t) ≡ true → Passes t y) (λ a b c d e. five-pass y (thirdOf u) a b c d e) t l
-    (left (goesOn (thirdOf u) u) (eqb (getD u 0 0) 0 || apart (thirdOf u) x y) f)
+    let z : ℕ = thirdOf u in
+    let e = written-out t 5 l in
+    subst⁻¹ (λ (w : List ℕ). Passes w y) e
+    (five-pass y z (getD t 0 0) (getD t 1 0) (getD t 2 0) (getD t 3 0) (getD t 4 0)
+    (subst (λ (w : List ℕ). goesOn z (takeAway y w) ≡ true) e (left (goesOn z u) (eqb (getD u 0 0) 0 || apart z x y) f)))

@@ -139,16 +139,19 @@ abbrev pub Row : ℕ → ℕ → ℕ → ℕ → ℕ → Type 0
 Row place one two four eight =
     (place < 9) × Checked (2 ^ (place * 4)) one × Checked (2 * 2 ^ (place * 4)) two × Checked (4 * 2 ^ (place * 4)) four × Checked (8 * 2 ^ (place * 4)) eight
 
-asked-is : (n c : ℕ) → T (isAsked n c) → Checked n c
-asked-is n c t =
+-- the check symbols as one number
+pub checked-number : (n : ℕ) → Checked n (number 4 (checksOf (digits 4 9 n)))
+checked-number n =
     let l : List ℕ = checksOf (digits 4 9 n) in
-    let e : c ≡ number 4 l = eqb→eq c (number 4 l) t in
     let b : Below (2 ^ 4) l = below-symbols l (symbols-checks (digits 4 9 n)) in
     let k : length l ≡ 6 = length-checks (digits 4 9 n) in
     record {
-      small = rw e (subst (λ (m : ℕ). number 4 l < 2 ^ (4 * m)) k (number-lt 4 l b));
-      are = ap (digits 4 6) e ∙ subst (λ (m : ℕ). digits 4 m (number 4 l) ≡ l) k (digits-number 4 l b);
+      small = subst (λ (m : ℕ). number 4 l < 2 ^ (4 * m)) k (number-lt 4 l b);
+      are = subst (λ (m : ℕ). digits 4 m (number 4 l) ≡ l) k (digits-number 4 l b);
     }
+
+asked-is : (n c : ℕ) → T (isAsked n c) → Checked n c
+asked-is n c t = subst (Checked n) (sym (eqb→eq c (number 4 (checksOf (digits 4 9 n))) t)) (checked-number n)
 
 pub row : (place one two four eight : ℕ) → T (rowRight place one two four eight) → Row place one two four eight
 unfolding rowRight

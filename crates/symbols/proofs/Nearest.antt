@@ -17,8 +17,7 @@ use Rattle.symbols.specs.Search.{sumsFrom, sixSums, takeAway, Second, Pa
 use Rattle.symbols.proofs.Complete.{pair-missed}
 use Rattle.symbols.proofs.Digits.{length-digits, symbols-digits, digits-low, digits-append, digits-xor}
 use Rattle.symbols.proofs.Encoder.{at-append, encoded, length-checks}
-use Rattle.symbols.proofs.Placed.{weight-self}
-use Rattle.symbols.proofs.Unique.{differing-weight}
+use Rattle.symbols.proofs.Unique.{differing-self, differing-weight}
 use Rattle.symbols.proofs.Words.{length-xors, symbols-xors, at-xors}
 
 -- power sums are the same where the values are, and only there
@@ -98,7 +97,7 @@ module _ (word : ℕ) where
         let c : digits 4 15 received ≡ nine ++ checksOf nine = in-two ∙ ap (λ (m : ℕ). nine ++ digits 4 6 m) (sym (xor-eq checks (received % 2 ^ 24) z)) ∙ ap (λ (l : List ℕ). nine ++ l) e in
         record {
           code = subst Codeword (sym c) (encoded nine (length-digits 4 9 (received / 2 ^ 24)) (symbols-digits 9 (received / 2 ^ 24)));
-          within = omega (arith, ap (λ (v : List ℕ). differing v l) as-received ∙ differing-weight l l refl ∙ weight-self l);
+          within = omega (arith, ap (λ (v : List ℕ). differing v l) as-received ∙ differing-self l);
         }
 
     -- what explains the sums takes the word to a codeword

@@ -29,7 +29,7 @@ unfolding power
 power-power a zero n = power-of-one n
 power-power a (suc m) n = power-times a (power a m) n ∙ ap (times (power a n)) (power-power a m n)
 
-pub weight-self : (w : List ℕ) → weight (xors w w) ≡ 0
+weight-self : (w : List ℕ) → weight (xors w w) ≡ 0
 unfolding xors
 weight-self [] = weight-nil
 weight-self (c ∷ cs) = weight-none (bitXor c c) (xors cs cs) (xor-self c) ∙ weight-self cs

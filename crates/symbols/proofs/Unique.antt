@@ -40,6 +40,11 @@ differing-nil : (cs : List ℕ) → differing [] cs ≡ length cs
 unfolding differing
 differing-nil cs = refl
 
+-- a word differs from itself in no place
+pub differing-self : (w : List ℕ) → differing w w ≡ 0
+differing-self [] = differing-nil []
+differing-self (c ∷ cs) = differing-same c cs cs ∙ differing-self cs
+
 nil-differing : (bs : List ℕ) → differing bs [] ≡ length bs
 unfolding differing
 nil-differing [] = refl

@@ -4,6 +4,7 @@ ghost use Prim.Native.Nat.{_*_, _/_, _%_, _^_, _<_};
 ghost use Rattle.symbols.specs.Code.{aTo};
 ghost use Rattle.symbols.specs.Field as field;
 
+// The product without carries; what stands above x^3 comes back times x + 1.
 pub fn times(a: u8, b: u8) -> u8
     requires { ⌜ (a < 16) × (b < 16) ⌝ }
     ensures { λ r. ⌜ r ≡ field.times a b ⌝ }
