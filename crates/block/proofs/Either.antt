@@ -19,7 +19,3 @@ or-test a b t = go (ltb a 2) refl (ltb b 2) refl
     go false p y q = ap (λ (x : Bool). x && t) (le-ltb (bitOr a b) 2 (omega (arith, or-ge a b, ltb-false a 2 p)))
     go true p false q = ap (λ (x : Bool). x && t) (le-ltb (bitOr a b) 2 (omega (arith, or-ge b a, or-comm a b, ltb-false b 2 q)))
     go true p true q = ap (λ (x : Bool). x && t) (lt-ltb (bitOr a b) 2 (or-lt 1 a b (ltb-true a 2 p) (ltb-true b 2 q)))
-
-pub and-true : (t : Bool) → t && true ≡ t
-and-true true = refl
-and-true false = refl

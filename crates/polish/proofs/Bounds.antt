@@ -1,13 +1,12 @@
 -- What a fitting time says of its fields.
 -- Assumes nothing.
 use borrow.Author.Tests.{ltb-true}
-use mathlib.Core.Bool.{Bool, true, _&&_}
+use mathlib.Core.Bool.{Bool, true, _&&_, and-eq-true-iff, and-true}
 use mathlib.Core.Path.{_≡_, sym, ap, _∙_}
 use Prim.Native.Nat.{ℕ, _<_, _^_}
 use lib.Bits.{bitOr}
 use lib.Dec.{ltb}
-use Rattle.block.proofs.Either.{or-test, and-true}
-use Rattle.symbols.proofs.Filter.{left, right}
+use Rattle.block.proofs.Either.{or-test}
 use Rattle.polish.specs.Write.{fitting}
 use Rattle.polish.specs.declared.Time.{Time}
 
@@ -23,7 +22,7 @@ pub record Bounds (time : Time) : Type 0 where
 
 -- where a bound and something else hold, the bound does, and the something else
 split : (n b : ℕ) (t : Bool) → ltb n b && t ≡ true → (n < b) × (t ≡ true)
-split n b t e = (ltb-true n b (left (ltb n b) t e), right (ltb n b) t e)
+split n b t e = (ltb-true n b (and-eq-true-iff (ltb n b) t .0 e .0), and-eq-true-iff (ltb n b) t .0 e .1)
 
 pub bounds : (time : Time) → fitting time ≡ true → Bounds time
 unfolding fitting

@@ -1,6 +1,6 @@
 -- Where a word has at most three symbols that are not 0, two of their places taken away from its power sums leave what a third place makes.
 -- Assumes nothing.
-use mathlib.Core.Bool.{Bool, true, false, cond}
+use mathlib.Core.Bool.{Bool, true, false, cond, true≢false}
 use mathlib.Core.List.{List, [], _∷_}
 use mathlib.Core.Path.{_≡_, refl, sym, ap, ap₂, _∙_, subst}
 use Prim.Native.Nat.{ℕ, zero, suc, _<_, _≤_}
@@ -87,7 +87,7 @@ refuted true f = absurd (f refl)
 refuted false f = refl
 
 pub true-false : {q : Bool} → q ≡ true → q ≡ false → ⊥
-true-false e f = let z : _≡_ {A = ℕ} 0 1 = ap (λ (q : Bool). cond q 0 1) (sym e ∙ f) in omega arith
+true-false e f = true≢false (sym e ∙ f)
 
 module _ (x : ℕ) (w : List ℕ) (l : length w ≡ 15) (other : (p : ℕ) → 0 < symbolAt p w → aTo p ≡ x → ⊥) (missing : Second (sumsFrom 1 5 w) x 0) where
   -- a second place that leaves one symbol at most is not missed

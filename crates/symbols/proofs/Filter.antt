@@ -1,8 +1,8 @@
 -- Five numbers that two places make follow a rule of second order, so the minors are some d, d times the places' sum and d times their product.
 -- Assumes nothing.
-use mathlib.Core.Bool.{Bool, true, false, _&&_, _||_}
+use mathlib.Core.Bool.{true, _||_, and-eq-true-iff}
 use mathlib.Core.List.{List, [], _∷_}
-use mathlib.Core.Path.{_≡_, refl, sym, ap, ap₂, _∙_, subst, subst⁻¹}
+use mathlib.Core.Path.{_≡_, sym, ap, ap₂, _∙_, subst, subst⁻¹}
 use Prim.Native.Nat.{ℕ}
 use borrow.Author.Tests.{eqb-true, eq-eqb}
 use lib.Bits.{bitXor, xor-comm, xor-self, xor-zero-l, xor-zero-r}
@@ -14,7 +14,6 @@ use Rattle.symbols.specs.Search.{takeAway, goesOn, thirdOf, apart, fits,
 use Rattle.symbols.proofs.Elements.{times-comm, times-assoc, times-xor, xor-times, times-zero}
 use Rattle.symbols.proofs.Sums.{written-out}
 use Rattle.symbols.proofs.Words.{xor-twice, times-swap}
-use Rattle.symbols.proofs.Complete.{true-false}
 
 -- what goes on by z after y was taken away follows the rule with y + z and y z
 rule : (y z a b c : ℕ) → bitXor c (times y b) ≡ times z (bitXor b (times y a)) → c ≡ bitXor (times (bitXor y z) b) (times (times y z) a)
@@ -75,18 +74,10 @@ module _ (y z a b c d e : ℕ) (r : c ≡ bitXor (times (bitXor y z) b) (times (
       ∙ ap (times y) (sym (xor-times y (bitXor y z) o) ∙ ap (λ (n : ℕ). times n o) (xor-cancel y z))
       ∙ times-assoc y z o ∙ sym product-is
 
-pub left : (p q : Bool) → (p && q) ≡ true → p ≡ true
-left true q e = refl
-left false q e = e
-
-pub right : (p q : Bool) → (p && q) ≡ true → q ≡ true
-right true q e = e
-right false q e = absurd (true-false e refl)
-
 -- one step of numbers that go on
 pub goes-on : (z s t : ℕ) (ts : List ℕ) → goesOn z (s ∷ t ∷ ts) ≡ true → (t ≡ times z s) × (goesOn z (t ∷ ts) ≡ true)
 unfolding goesOn
-goes-on z s t ts e = (eqb-true t (times z s) (left (eqb t (times z s)) (goesOn z (t ∷ ts)) e), right (eqb t (times z s)) (goesOn z (t ∷ ts)) e)
+goes-on z s t ts e = (eqb-true t (times z s) (and-eq-true-iff (eqb t (times z s)) (goesOn z (t ∷ ts)) .0 e .0), and-eq-true-iff (eqb t (times z s)) (goesOn z (t ∷ ts)) .0 e .1)
 
 -- four numbers that go on, written out
 pub record Powers (z : ℕ) (u : List ℕ) : Type 0 where
@@ -129,4 +120,4 @@ passes x y t l f =
     let e = written-out t 5 l in
     subst⁻¹ (λ (w : List ℕ). Passes w y) e
     (five-pass y z (getD t 0 0) (getD t 1 0) (getD t 2 0) (getD t 3 0) (getD t 4 0)
-    (subst (λ (w : List ℕ). goesOn z (takeAway y w) ≡ true) e (left (goesOn z u) (eqb (getD u 0 0) 0 || apart z x y) f)))
+    (subst (λ (w : List ℕ). goesOn z (takeAway y w) ≡ true) e (and-eq-true-iff (goesOn z u) (eqb (getD u 0 0) 0 || apart z x y) .0 f .0)))

@@ -1,6 +1,6 @@
 -- Four numbers that fit are zeros or the powers of a third place; so two places that were found have one.
 -- Assumes nothing.
-use mathlib.Core.Bool.{Bool, true, false, not, _&&_, _||_}
+use mathlib.Core.Bool.{Bool, true, false, not, _&&_, _||_, and-eq-true-iff}
 use mathlib.Core.List.{List}
 use mathlib.Core.Path.{_≡_, refl}
 use Prim.Native.Nat.{ℕ, _<_}
@@ -11,7 +11,6 @@ use lib.ListN.{getD}
 use Rattle.symbols.specs.Search.{goesOn, thirdOf, apart, fits, Pair, Found}
 use Rattle.symbols.proofs.Distance.{positive}
 use Rattle.symbols.proofs.Complete.{true-false}
-use Rattle.symbols.proofs.Filter.{left, right}
 
 -- what is known where four numbers fit
 pub data Fitting (x y z : ℕ) (u : List ℕ) : Type 0 where
@@ -34,12 +33,12 @@ fitting x y u f = by (eqb (getD u 0 0) 0) refl
     by true e = empty (third-empty u e) (eqb-true (getD u 0 0) 0 e)
     by false e =
         let z : ℕ = thirdOf u in
-        let g : (eqb (getD u 0 0) 0 || apart z x y) ≡ true = right (goesOn z u) (eqb (getD u 0 0) 0 || apart z x y) f in
+        let g : (eqb (getD u 0 0) 0 || apart z x y) ≡ true = and-eq-true-iff (goesOn z u) (eqb (getD u 0 0) 0 || apart z x y) .0 f .1 in
         let h : apart z x y ≡ true = otherwise (eqb (getD u 0 0) 0) (apart z x y) e g in
-        let k = right (not (eqb z 0)) (not (eqb z x) && not (eqb z y)) h in
-        third (positive z (eqb-false z 0 (not-true (eqb z 0) (left (not (eqb z 0)) (not (eqb z x) && not (eqb z y)) h))))
-        (eqb-false z x (not-true (eqb z x) (left (not (eqb z x)) (not (eqb z y)) k)))
-        (eqb-false z y (not-true (eqb z y) (right (not (eqb z x)) (not (eqb z y)) k)))
+        let k = and-eq-true-iff (not (eqb z 0)) (not (eqb z x) && not (eqb z y)) .0 h .1 in
+        third (positive z (eqb-false z 0 (not-true (eqb z 0) (and-eq-true-iff (not (eqb z 0)) (not (eqb z x) && not (eqb z y)) .0 h .0))))
+        (eqb-false z x (not-true (eqb z x) (and-eq-true-iff (not (eqb z x)) (not (eqb z y)) .0 k .0)))
+        (eqb-false z y (not-true (eqb z y) (and-eq-true-iff (not (eqb z x)) (not (eqb z y)) .0 k .1)))
 
 pub third-pos : (x y : ℕ) (u : List ℕ) → fits x y u ≡ true → 0 < thirdOf u
 third-pos x y u f = by (fitting x y u f)

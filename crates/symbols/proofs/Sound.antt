@@ -1,7 +1,7 @@
 -- Three symbols at three places have the power sums that they were computed from: taking two places away leaves the third's powers on both sides,
 -- and each step back is fixed by one number.
 -- Assumes nothing.
-use mathlib.Core.Bool.{true, _||_}
+use mathlib.Core.Bool.{true, _||_, and-eq-true-iff}
 use mathlib.Core.List.{List, [], _∷_}
 use mathlib.Core.Path.{_≡_, refl, sym, ap, ap₂, _∙_}
 use Prim.Native.Nat.{ℕ, zero, suc, _+_, _<_, _≤_}
@@ -20,7 +20,7 @@ use Rattle.symbols.proofs.Distance.{weight-nil, weight-none, weight-one
 use Rattle.symbols.proofs.Places.{weight-most, weight-least}
 use Rattle.symbols.proofs.Sums.{symbols-getD, symbols-takeAway, third-lt}
 use Rattle.symbols.proofs.Complete.{sums-away}
-use Rattle.symbols.proofs.Filter.{left, goes-on}
+use Rattle.symbols.proofs.Filter.{goes-on}
 use Rattle.symbols.proofs.Terms.{term-gone, value-away, once, twice}
 use Rattle.symbols.proofs.Fitting.{fitting, third-pos}
 use Rattle.symbols.proofs.Values.{last-back, middle-back, first-back}
@@ -88,7 +88,7 @@ module _ (s : List ℕ) (x y : ℕ) (l : length s ≡ 6) (symbols : Symbols s) (
       (ha : a ≡ firstOf x y z (getD s 0 0) b c) (hb : b ≡ middleOf x y z (getD t 0 0) c) (hc : c ≡ lastOf x y z (getD u 0 0)) where
     goes : goesOn z u ≡ true
     unfolding fits
-    goes = left (goesOn z u) (eqb (getD u 0 0) 0 || apart z x y) f
+    goes = and-eq-true-iff (goesOn z u) (eqb (getD u 0 0) 0 || apart z x y) .0 f .0
 
     gone : (j : ℕ) → at (aTo j) (away z (away y (away x e))) ≡ 0
     unfolding power

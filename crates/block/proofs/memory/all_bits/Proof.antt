@@ -1,6 +1,6 @@
 -- `all_bits` meets its contract. The loop's invariant: the test of what was seen and the test of what is left make the whole test.
 -- Assumes nothing.
-use mathlib.Core.Bool.{_&&_}
+use mathlib.Core.Bool.{_&&_, and-true}
 use mathlib.Core.List.{List}
 use mathlib.Core.Path.{_≡_, refl, sym, ap, _∙_}
 use Prim.Native.Nat.{ℕ, _≤_, _+_, _-_}
@@ -8,7 +8,7 @@ use native.Mathlib.Omega.{arith}
 use lib.Dec.{ltb}
 use lib.ListN.{length, getD, drop, drop-of-length-le}
 use Rattle.block.specs.Bits.{areBits}
-use Rattle.block.proofs.Either.{or-test, and-true}
+use Rattle.block.proofs.Either.{or-test}
 use Rattle.block.proofs.Strings.{next}
 use Rattle.block.proofs.memory.all_bits.Statement.{statement}
 use Rattle.block.proofs.memory.all_bits.Tie as tie

@@ -1,7 +1,7 @@
 -- `second` meets its contract. The loop's invariant: no place before y fits.
 -- Assumes nothing.
 use borrow.Author.Tests.{eqb-false, ne-eqb, not-true}
-use mathlib.Core.Bool.{true, false, _&&_, not}
+use mathlib.Core.Bool.{true, false, _&&_, not, and-eq-true-iff}
 use mathlib.Core.List.{List}
 use mathlib.Core.Path.{_≡_, refl, sym, ap, _∙_, subst⁻¹}
 use Prim.Native.Nat.{ℕ, _-_, _<_, _≤_}
@@ -10,7 +10,7 @@ use lib.Dec.{eqb}
 use Rattle.symbols.specs.Search.{takeAway, fits, Second, twoPlaces}
 use Rattle.symbols.specs.declared.search.Minors.{Minors}
 use Rattle.symbols.proofs.Complete.{true-false, refuted}
-use Rattle.symbols.proofs.Filter.{left, right, passes}
+use Rattle.symbols.proofs.Filter.{passes}
 use Rattle.symbols.proofs.Sums.{minors-lt, up-to}
 use Rattle.symbols.proofs.search.second.Statement.{statement}
 use Rattle.symbols.proofs.search.second.Tie as tie
@@ -32,8 +32,8 @@ none-at-all t x y h f = record { none = λ _ z p q d. f z (omega arith) p d; som
 module _ (t : List ℕ) (x y : ℕ) where
   is-one : 0 < y → y < 16 → (not (eqb x y) && fits x y (takeAway y t)) ≡ true → Second t x y
   is-one p h e =
-      let differs = eqb-false x y (not-true (eqb x y) (left (not (eqb x y)) (fits x y (takeAway y t)) e)) in
-      record { none = λ d. absurd (omega arith); some = λ _. (h, λ d. differs (sym d), right (not (eqb x y)) (fits x y (takeAway y t)) e) }
+      let differs = eqb-false x y (not-true (eqb x y) (and-eq-true-iff (not (eqb x y)) (fits x y (takeAway y t)) .0 e .0)) in
+      record { none = λ d. absurd (omega arith); some = λ _. (h, λ d. differs (sym d), and-eq-true-iff (not (eqb x y)) (fits x y (takeAway y t)) .0 e .1) }
 
   is-none : (not (eqb x y) && fits x y (takeAway y t)) ≡ false → Not t x y
   is-none e p d = sym (ap (λ (q : _). not q && fits x y (takeAway y t)) (ne-eqb x y (λ f. d (sym f)))) ∙ e
