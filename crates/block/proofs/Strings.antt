@@ -203,6 +203,12 @@ rem-small [] r h = refl
 rem-small (b ∷ bs) r h =
     ap (λ (q : ℕ). remainderFrom q bs) (step-small r b (omega (arith, val-ge bs (r * 2 + b)))) ∙ rem-small bs (r * 2 + b) h
 
+pub length-xors : (xs ys : List ℕ) → length xs ≡ length ys → length (xors xs ys) ≡ length xs
+unfolding xors
+length-xors [] ys e = refl
+length-xors (x ∷ xs) [] e = absurd (omega arith)
+length-xors (x ∷ xs) (y ∷ ys) e = ap suc (length-xors xs ys (omega arith))
+
 pub xors-zeros : (bs : List ℕ) → xors (zeros (length bs)) bs ≡ bs
 unfolding xors
 xors-zeros [] = refl

@@ -9,14 +9,7 @@ use lib.Dec.{T, eqb, eqb→eq}
 use lib.ListN.{length, getD}
 use Rattle.block.specs.Bits.{bitsOf, zeros}
 use Rattle.block.specs.Division.{remainderFrom, remainder, Remainders}
-
-pub both-left : (a b : Bool) → T (a && b) → T a
-both-left true b t = tt
-both-left false b t = t
-
-pub both-right : (a b : Bool) → T (a && b) → T b
-both-right true b t = t
-both-right false b t = absurd t
+use Rattle.block.proofs.Below.{both-left, both-right}
 
 -- the test f passes at each entry and its place, counted from i
 abbrev every : (ℕ → ℕ → Bool) → ℕ → List ℕ → Bool

@@ -13,7 +13,7 @@ use Rattle.block.specs.Block.{Good, prefixIn}
 use Rattle.block.specs.Division.{stepBit, remainderFrom, remainder}
 use Rattle.block.proofs.Xor.{on-bit, xor-cancel}
 use Rattle.block.proofs.Linear.{rem-xor}
-use Rattle.block.proofs.Strings.{bits-at}
+use Rattle.block.proofs.Strings.{bits-at, length-xors}
 use Rattle.block.proofs.CheckWord.{good-rem}
 use Rattle.detection.specs.Damage.{Among, weight, Damage, few, odd, burst, groups, refusedBy, DamageRefused}
 use Rattle.detection.proofs.Odd.{not-odd}
@@ -61,12 +61,6 @@ not-damage (suc zero ∷ e) h l s z d = begins e (h .1) (omega arith) z d
 not-damage (suc (suc b) ∷ e) h l s z d = omega arith
 
 -- ---- the changed block
-
-length-xors : (s e : List ℕ) → length s ≡ length e → length (xors s e) ≡ length s
-unfolding xors
-length-xors [] e l = refl
-length-xors (b ∷ s) [] l = absurd (omega arith)
-length-xors (b ∷ s) (c ∷ e) l = ap suc (length-xors s e (omega arith))
 
 bits-xors : (s e : List ℕ) → Bits s → Bits e → Bits (xors s e)
 unfolding xors

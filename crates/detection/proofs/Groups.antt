@@ -15,13 +15,13 @@ use Rattle.block.specs.Division.{stepBit, remainderFrom, remainder}
 use Rattle.block.proofs.Xor.{on-bit, xor-eq}
 use Rattle.block.proofs.Strings.{bits-zeros, bits-take, bits-drop, rem-append, rem-lt, rem-val, rem-split, val-lt}
 use Rattle.detection.specs.Damage.{Changed, Among}
-use Rattle.detection.proofs.Each.{each, each-at}
+use Rattle.block.proofs.Below.{below, at-below}
 use Rattle.detection.proofs.Zeros.{zeros-join}
 use Rattle.detection.proofs.Places.{changed-lt, unchanged}
 use Rattle.detection.proofs.Burst.{cut, not-burst}
 
-above : (v n : ℕ) → T (each 50 (λ n. leb 4 (remainderFrom v (zeros (suc n))))) → n < 50 → 4 ≤ remainderFrom v (zeros (suc n))
-above v n t h = leb→le 4 (remainderFrom v (zeros (suc n))) (each-at 50 (λ n. leb 4 (remainderFrom v (zeros (suc n)))) t n h)
+above : (v n : ℕ) → T (below 50 (λ n. leb 4 (remainderFrom v (zeros (suc n))))) → n < 50 → 4 ≤ remainderFrom v (zeros (suc n))
+above v n t h = leb→le 4 (remainderFrom v (zeros (suc n))) (at-below 50 (λ n. leb 4 (remainderFrom v (zeros (suc n)))) t n h)
 
 far : (x n : ℕ) → x < 2 → 1 ≤ n → n ≤ 50 → 4 ≤ remainderFrom (2 + x) (zeros n)
 unfolding remainderFrom
@@ -46,15 +46,15 @@ apart x n q hx hq lq hn l z =
 
 -- changes at the first place of r and in one group more
 module _ (r : List ℕ) (b : ℕ) (h : Bits r) (f : (k : ℕ) → Changed r k → (k < 1) ⊎ Among b 2 k) (z : remainder (1 ∷ r) ≡ 0) where
-  below : (k : ℕ) → Changed r k → k < b + 2
-  below k c = ⊎-elim (λ i. omega arith) (λ i. omega arith) (f k c)
+  before-end : (k : ℕ) → Changed r k → k < b + 2
+  before-end k c = ⊎-elim (λ i. omega arith) (λ i. omega arith) (f k c)
 
   gap : (k : ℕ) → Changed r k → k < b → k < 1
   gap k c l = ⊎-elim (λ i. i) (λ i. absurd (omega arith)) (f k c)
 
   -- near each other they are a burst
   close : min (b + 2) (length r) ≤ 12 → ⊥
-  close d = not-burst r h (λ k c. omega (arith, below k c, changed-lt r k c)) z
+  close d = not-burst r h (λ k c. omega (arith, before-end k c, changed-lt r k c)) z
 
 pub not-groups : (r : List ℕ) (b : ℕ) → Bits r → length r ≤ 49 → ((k : ℕ) → Changed r k → (k < 1) ⊎ Among b 2 k) → remainder (1 ∷ r) ≡ 0 → ⊥
 not-groups [] b h l f z = close [] b h f z (omega arith)
@@ -82,4 +82,4 @@ not-groups (x ∷ s) (suc m) h l f z = go (decLe (min (suc m + 2) (suc (length s
         (ap (λ (u : List ℕ). remainder (1 ∷ x ∷ (u ++ q))) (sym between)
         ∙ ap (λ (u : List ℕ). remainder (1 ∷ x ∷ u)) (sym (take-add m 2 s))
         ∙ ap (λ (n : ℕ). remainder (1 ∷ take n (x ∷ s))) (sym e)
-        ∙ cut (x ∷ s) (suc m + 2) h (below (x ∷ s) (suc m) h f z) z)
+        ∙ cut (x ∷ s) (suc m + 2) h (before-end (x ∷ s) (suc m) h f z) z)

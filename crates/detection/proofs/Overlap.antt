@@ -14,7 +14,7 @@ use lib.Pow.{pow-mono}
 use Rattle.block.specs.Bits.{Bits, zeros, value, valueFrom}
 use Rattle.block.specs.Division.{stepBit, remainderFrom, remainder}
 use Rattle.block.proofs.Strings.{rem-append, rem-small, rem-split, rem-val, val-lt}
-use Rattle.detection.proofs.Each.{each-at}
+use Rattle.block.proofs.Below.{at-below}
 
 -- the bits of m and a 1, pushed up by forty-nine zeros
 pushed : ℕ → ℕ
@@ -23,12 +23,12 @@ pushed m = remainderFrom (m * 2 + 1) (zeros 49)
 -- up to six bits end above the seven lowest places
 six : (m : ℕ) → m < 32 → 128 ≤ pushed m
 unfolding pushed remainderFrom
-six m h = leb→le 128 (pushed m) (each-at 32 (λ m. leb 128 (pushed m)) tt m h)
+six m h = leb→le 128 (pushed m) (at-below 32 (λ m. leb 128 (pushed m)) tt m h)
 
 -- up to seven bits do not end as a number of just seven bits
 seven : (m : ℕ) → m < 64 → pushed m / 64 ≡ 1 → ⊥
 unfolding pushed remainderFrom
-seven m h e = T-not (eqb (pushed m / 64) 1) (each-at 64 (λ m. not (eqb (pushed m / 64) 1)) tt m h) (subst (λ (n : ℕ). T (eqb n 1)) (sym e) tt)
+seven m h e = T-not (eqb (pushed m / 64) 1) (at-below 64 (λ m. not (eqb (pushed m / 64) 1)) tt m h) (subst (λ (n : ℕ). T (eqb n 1)) (sym e) tt)
 
 -- a, a 1 and u is the same string as w and q, where u and w leave nothing
 module _ (a u w q : List ℕ) (ha : Bits a) (hu : Bits u) (hq : Bits q) (la : length a ≤ 6) (lq : length q ≤ 7) (lu : length u ≡ 49)

@@ -15,7 +15,7 @@ use Rattle.block.proofs.Xor.{xor-assoc}
 use Rattle.symbols.specs.Code.{Near}
 use Rattle.symbols.specs.Digits.{digits, number}
 use Rattle.symbols.proofs.Digits.{Below, digits-append}
-use Rattle.symbols.proofs.Elements.{at-below}
+use Rattle.block.proofs.Below.{at-below}
 use Rattle.symbols.proofs.Unique.{unique}
 use Rattle.polish.specs.Crc.{crcShifts, crcFrom}
 use Rattle.polish.specs.Frame.{crcOfBody, wordOf, mendedTo}

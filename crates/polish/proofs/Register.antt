@@ -7,8 +7,7 @@ use Prim.Native.Nat.{ℕ, _*_, _/_, _%_, _<_}
 use native.Mathlib.Omega.{arith}
 use lib.Bits.{bitXor, xor-lt}
 use lib.Dec.{T, eqb, ltb, eqb→eq, ltb→lt}
-use Rattle.block.proofs.Table.{both-left, both-right}
-use Rattle.symbols.proofs.Elements.{at-below}
+use Rattle.block.proofs.Below.{both-left, both-right, at-below}
 use Rattle.polish.specs.Crc.{crcShifts, crcFrom}
 
 pub sum-lt : (register byte : ℕ) → (register < 256) × (byte < 256) → bitXor register byte < 256

@@ -9,10 +9,11 @@ use native.Mathlib.Omega.{arith}
 use lib.Bits.{bitXor, xor-self, xor-zero-r, xor-zero-l, xor-lt}
 use lib.Dec.{T, eqb, ltb, eqb→eq, ltb→lt}
 use lib.ListN.{length}
+use Rattle.block.proofs.Below.{at-pairs}
 use Rattle.symbols.specs.Code.{Symbols, aTo, at}
 use Rattle.symbols.specs.Field.{times, power}
 use Rattle.symbols.specs.Search.{weight}
-use Rattle.symbols.proofs.Elements.{at-pairs, times-comm, times-zero, zero-times, times-nonzero, power-lt}
+use Rattle.symbols.proofs.Elements.{times-comm, times-zero, zero-times, times-nonzero, power-lt}
 use Rattle.symbols.proofs.Words.{away, length-away, symbols-away, next-sum}
 
 pub weight-none : (n : ℕ) (w : List ℕ) → n ≡ 0 → weight (n ∷ w) ≡ weight w

@@ -8,22 +8,8 @@ use native.Mathlib.Omega.{arith}
 use lib.Bits.{bitXor, xor-mod}
 use lib.Pow.{field}
 use lib.Dec.{T, eqb, ltb, eqb→eq, ltb→lt}
-use Rattle.block.proofs.Table.{both-left, both-right}
+use Rattle.block.proofs.Below.{below, at-below, at-pairs}
 use Rattle.symbols.specs.Field.{carryless, times, power, inverseOf}
-
--- the test passes at every number below n
-abbrev pub below : ℕ → (ℕ → Bool) → Bool
-below zero f = true
-below (suc n) f = f zero && below n (λ k. f (suc k))
-
-pub at-below : (n : ℕ) (f : ℕ → Bool) → T (below n f) → (k : ℕ) → k < n → T (f k)
-at-below zero f t k h = absurd (omega arith)
-at-below (suc n) f t zero h = both-left (f zero) (below n (λ k. f (suc k))) t
-at-below (suc n) f t (suc k) h = at-below n (λ k. f (suc k)) (both-right (f zero) (below n (λ k. f (suc k))) t) k (le-of-suc-le-suc h)
-
--- the same for every two numbers below n
-pub at-pairs : (n : ℕ) (f : ℕ → ℕ → Bool) → T (below n (λ a. below n (f a))) → (a b : ℕ) → a < n → b < n → T (f a b)
-at-pairs n f t a b ha hb = at-below n (f a) (at-below n (λ a. below n (f a)) t a ha) b hb
 
 module _ (a b : ℕ) (ha : a < 16) (hb : b < 16) where
   product-lt : times a b < 16

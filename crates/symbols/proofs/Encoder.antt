@@ -9,11 +9,13 @@ use lib.Dec.{eqb, eqb→eq}
 use lib.ListN.{length, drop, length-append, length-map}
 use Rattle.block.specs.Bits.{zeros}
 use Rattle.block.proofs.Xor.{xor-assoc}
+use Rattle.block.proofs.Below.{at-below}
+use Rattle.block.proofs.Strings.{length-xors}
 use Rattle.symbols.specs.Code.{Symbols, aTo, at, Codeword, scaled, generator, encodeStep, encodeFrom, checksOf}
 use Rattle.symbols.specs.Field.{times, power}
 use Rattle.symbols.specs.Search.{weight}
-use Rattle.symbols.proofs.Elements.{at-below, times-lt, times-comm, times-assoc, times-xor, xor-times, times-one, times-zero, zero-times, power-lt}
-use Rattle.symbols.proofs.Words.{length-xors, symbols-xors, at-xors, at-lt, times-swap}
+use Rattle.symbols.proofs.Elements.{times-lt, times-comm, times-assoc, times-xor, xor-times, times-one, times-zero, zero-times, power-lt}
+use Rattle.symbols.proofs.Words.{symbols-xors, at-xors, at-lt, times-swap}
 use Rattle.symbols.proofs.Distance.{at-weightless, at-first-zero}
 
 power-add : (X m n : ℕ) → power X (m + n) ≡ times (power X m) (power X n)

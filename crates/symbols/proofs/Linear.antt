@@ -12,18 +12,18 @@ use lib.ListN.{length, drop}
 use lib.Pow.{mod-pow-add, pow-pos}
 use lib.Seq.{drop-append-seam}
 use Rattle.block.specs.Bits.{xors}
-use Rattle.block.proofs.Table.{both-left, both-right}
 use Rattle.block.proofs.Xor.{on-bit}
+use Rattle.block.proofs.Below.{at-below, both-left, both-right}
+use Rattle.block.proofs.Strings.{length-xors}
 use Rattle.symbols.specs.Code.{Symbols, aTo, Codeword, differing, encodeFrom, checksOf, Checked}
 use Rattle.symbols.specs.Digits.{digits, number}
 use Rattle.symbols.specs.Search.{weight}
 use Rattle.symbols.proofs.Digits.{Below, below-symbols, length-digits, symbols-digits, digits-low, number-lt, digits-number, digits-xor}
 use Rattle.symbols.proofs.Distance.{weight-nil}
-use Rattle.symbols.proofs.Elements.{at-below}
 use Rattle.symbols.proofs.Encoder.{encoded, length-checks, symbols-checks}
 use Rattle.symbols.proofs.Places.{weight-most}
 use Rattle.symbols.proofs.Unique.{differing-same, differing-weight, apart}
-use Rattle.symbols.proofs.Words.{length-xors, symbols-xors, at-xors}
+use Rattle.symbols.proofs.Words.{symbols-xors, at-xors}
 
 xors-append : (a b c d : List ℕ) → length a ≡ length c → xors (a ++ b) (c ++ d) ≡ xors a c ++ xors b d
 unfolding xors

@@ -10,6 +10,7 @@ use lib.Bits.{bitXor, xor-self, xor-zero-r}
 use lib.ListN.{length}
 use Rattle.block.specs.Bits.{xors}
 use Rattle.block.proofs.Xor.{xor-cancel, xor-eq}
+use Rattle.block.proofs.Strings.{length-xors}
 use Rattle.symbols.specs.Code.{Symbols, aTo, at, Codeword, differing, Near, checksOf}
 use Rattle.symbols.specs.Digits.{digits}
 use Rattle.symbols.specs.Field.{times, power}
@@ -18,7 +19,7 @@ use Rattle.symbols.proofs.Complete.{pair-missed}
 use Rattle.symbols.proofs.Digits.{length-digits, symbols-digits, digits-low, digits-append, digits-xor}
 use Rattle.symbols.proofs.Encoder.{at-append, encoded, length-checks}
 use Rattle.symbols.proofs.Unique.{differing-self, differing-weight}
-use Rattle.symbols.proofs.Words.{length-xors, symbols-xors, at-xors}
+use Rattle.symbols.proofs.Words.{symbols-xors, at-xors}
 
 -- power sums are the same where the values are, and only there
 sums-same : (n k : ℕ) (u v : List ℕ) → ((j : ℕ) → n ≤ j → j < n + k → at (aTo j) u ≡ at (aTo j) v) → sumsFrom n k u ≡ sumsFrom n k v

@@ -10,12 +10,13 @@ use lib.Bits.{bitXor, xor-self, xor-lt}
 use lib.Dec.{eqb}
 use lib.ListN.{length, getD}
 use Rattle.block.specs.Bits.{xors, zeros}
+use Rattle.block.proofs.Strings.{length-xors}
 use Rattle.symbols.specs.Code.{Symbols, aTo, at}
 use Rattle.symbols.specs.Digits.{digits}
 use Rattle.symbols.specs.Field.{times, power}
 use Rattle.symbols.specs.Search.{sumsFrom, sixSums, takeAway, goesOn, thirdOf, apart, fits, weight, Single, lastOf, middleOf, firstOf, Mistakes, Found}
 use Rattle.symbols.proofs.Digits.{length-digits, digits-xor}
-use Rattle.symbols.proofs.Words.{away, at-xors, xor-twice, length-xors}
+use Rattle.symbols.proofs.Words.{away, at-xors, xor-twice}
 use Rattle.symbols.proofs.Distance.{weight-nil, weight-none, weight-one}
 use Rattle.symbols.proofs.Places.{weight-most, weight-least}
 use Rattle.symbols.proofs.Sums.{symbols-getD, symbols-takeAway, third-lt}

@@ -11,9 +11,10 @@ use lib.Dec.{eqb}
 use lib.ListN.{length}
 use Rattle.block.specs.Bits.{xors}
 use Rattle.block.proofs.Xor.{xor-eq}
+use Rattle.block.proofs.Strings.{length-xors}
 use Rattle.symbols.specs.Code.{aTo, Codeword, differing, Near}
 use Rattle.symbols.specs.Search.{weight}
-use Rattle.symbols.proofs.Words.{length-xors, symbols-xors, at-xors}
+use Rattle.symbols.proofs.Words.{symbols-xors, at-xors}
 use Rattle.symbols.proofs.Distance.{weight-nil, weight-none, weight-one, positive, vanishing}
 
 -- two words go on with the same symbol or with different ones

@@ -7,16 +7,11 @@ use native.Mathlib.Omega.{arith}
 use lib.Bits.{bitXor, xor-self, xor-zero-r, xor-lt}
 use lib.ListN.{length}
 use Rattle.block.specs.Bits.{xors}
+use Rattle.block.proofs.Strings.{length-xors}
 use Rattle.block.proofs.Xor.{xor-assoc, xor-swap}
 use Rattle.symbols.specs.Code.{Symbols, aTo, at}
 use Rattle.symbols.specs.Field.{times, power}
 use Rattle.symbols.proofs.Elements.{times-lt, times-comm, times-assoc, times-xor, xor-times, times-one, times-zero}
-
-pub length-xors : (u v : List ℕ) → length u ≡ length v → length (xors u v) ≡ length u
-unfolding xors
-length-xors [] v e = refl
-length-xors (b ∷ bs) [] e = absurd (omega arith)
-length-xors (b ∷ bs) (c ∷ cs) e = ap suc (length-xors bs cs (omega arith))
 
 pub symbols-xors : (u v : List ℕ) → Symbols u → Symbols v → Symbols (xors u v)
 unfolding xors

@@ -4,8 +4,8 @@ use borrow.Author.Needs.{needs}
 use mathlib.Core.Path.{_∙_}
 use Prim.Native.Nat.{ℕ, _*_, _/_, _%_, _^_}
 use lib.Dec.{eqb, eqb→eq}
+use Rattle.block.proofs.Below.{at-below}
 use Rattle.symbols.specs.Field.{inverseOf}
-use Rattle.symbols.proofs.Elements.{at-below}
 use Rattle.symbols.proofs.field.inverse.Statement.{statement}
 use Rattle.symbols.proofs.field.inverse.Tie as tie
 

@@ -5,9 +5,9 @@ use mathlib.Core.Path.{_≡_}
 use Prim.Native.Nat.{ℕ, zero, suc, _*_, _/_, _%_, _^_, _<_}
 use native.Mathlib.Omega.{arith}
 use lib.Dec.{eqb, ltb, eqb→eq, ltb→lt}
+use Rattle.block.proofs.Below.{at-below}
 use Rattle.symbols.specs.Code.{aTo}
 use Rattle.symbols.specs.Field.{power}
-use Rattle.symbols.proofs.Elements.{at-below}
 use Rattle.symbols.proofs.field.power_of.Statement.{statement}
 use Rattle.symbols.proofs.field.power_of.Tie as tie
 

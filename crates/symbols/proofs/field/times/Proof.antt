@@ -5,8 +5,9 @@ use Prim.Native.Nat.{ℕ, _*_, _/_, _%_}
 use native.Mathlib.Omega.{arith}
 use lib.Bits.{bitXor}
 use lib.Dec.{eqb, ltb, eqb→eq, ltb→lt}
+use Rattle.block.proofs.Below.{at-pairs}
 use Rattle.symbols.specs.Field.{times}
-use Rattle.symbols.proofs.Elements.{at-pairs, bit-times}
+use Rattle.symbols.proofs.Elements.{bit-times}
 use Rattle.symbols.proofs.field.times.Statement.{statement}
 use Rattle.symbols.proofs.field.times.Tie as tie
 
