@@ -15,15 +15,16 @@ use Rattle.block.specs.Read.{readOf}
 use Rattle.block.specs.declared.Read.{Read}
 use Rattle.block.specs.declared.Read.the-variants.{Block}
 use Rattle.block.proofs.RoundTrip.{written-good, read-back}
-use Rattle.receiver.specs.declared.Judged.{Judged}
-use Rattle.receiver.specs.declared.Lock.{Lock}
+use Rattle.timekeeping.specs.Times.{usableIn, offeredTo}
+use Rattle.locking.specs.declared.Judged.{Judged}
+use Rattle.locking.specs.declared.Lock.{Lock}
+use Rattle.locking.specs.Locks.{locked, lockOf}
+use Rattle.locking.specs.Modes.{goodBlock, heldOn, judgedBy}
+use Rattle.locking.proofs.Choices.{held-judged}
 use Rattle.receiver.specs.declared.Ran.{Ran}
-use Rattle.receiver.specs.States.{locked, lockOf, stateOf}
-use Rattle.receiver.specs.Times.{usableIn, offeredTo}
-use Rattle.receiver.specs.Modes.{goodBlock, heldOn, judgedBy}
+use Rattle.receiver.specs.States.{stateOf}
 use Rattle.receiver.specs.Steps.{waitingAfter, bitsAfter, judgedStep, stepOf}
 use Rattle.receiver.specs.Runs.{runFrom}
-use Rattle.receiver.proofs.LostLock.{held-judged}
 
 -- a run goes on after a judged window
 abbrev onFrom : List ℕ → ℕ → List ℕ → Judged → Ran

@@ -19,10 +19,11 @@ use Rattle.record.specs.declared.Recorded.the-variants.{Given, Refused}
 use Rattle.record.specs.Fields.{wordOf}
 use Rattle.calendar.specs.NextMinute.{nextMinuteOf}
 use Rattle.calendar.proofs.Answers.{Usable}
+use Rattle.timekeeping.specs.declared.Time.{Time}
+use Rattle.timekeeping.specs.Proper.{isGiven}
+use Rattle.timekeeping.specs.Times.{none, candidate, confirmed, timeOf, usableIn, sameMinute, follows, renewedBy, agedBy, offeredTo}
 use Rattle.receiver.specs.declared.State.{State}
-use Rattle.receiver.specs.declared.Time.{Time}
-use Rattle.receiver.specs.States.{none, candidate, confirmed, timeOf, stateOf, lockIn, isGiven}
-use Rattle.receiver.specs.Times.{usableIn, sameMinute, follows, renewedBy, agedBy, offeredTo}
+use Rattle.receiver.specs.States.{stateOf, lockIn}
 use Rattle.receiver.specs.Runs.{runFrom}
 use Rattle.detection.specs.Slips.{Message, sent}
 use Rattle.journey.specs.Journey.{timeBlock, Others, Idle, holding}

@@ -8,8 +8,10 @@ use borrow.Author.Tests.{le-leb}
 use Rattle.block.specs.Bits.{zeros}
 use Rattle.block.proofs.RoundTrip.{read-back}
 use Rattle.record.specs.Words as words
-use Rattle.receiver.specs.States.{locked, noTime, lockOf, stateOf, bitsProper, isZeroRecord, isNoTime, timeProper, lockProper, properOf}
-use Rattle.receiver.specs.Times.{usableIn}
+use Rattle.timekeeping.specs.Proper.{isZeroRecord, isNoTime, timeProper}
+use Rattle.timekeeping.specs.Times.{noTime, usableIn}
+use Rattle.locking.specs.Locks.{locked, lockOf, lockProper}
+use Rattle.receiver.specs.States.{stateOf, bitsProper, properOf}
 use Rattle.journey.specs.Journey.{Other, Idle}
 
 pub idle : (bad : ℕ) → bad ≤ 3 → Idle (stateOf (lockOf locked 0 bad noTime) 0 (zeros 50))

@@ -19,8 +19,8 @@ use Rattle.calendar.specs.NextMinute.{nextMinuteOf, nextOfDate}
 use Rattle.calendar.proofs.Answers.{Usable}
 use Rattle.calendar.proofs.RoundTrip.{date-back}
 use Rattle.calendar.proofs.Stepping.{next-of-date}
+use Rattle.timekeeping.specs.Times.{candidate, confirmed}
 use Rattle.receiver.specs.declared.State.{State}
-use Rattle.receiver.specs.States.{candidate, confirmed}
 use Rattle.receiver.specs.Runs.{ended, runFrom, runOf}
 use Rattle.receiver.proofs.Together.{run-is}
 use Rattle.detection.specs.Slips.{Message, sent}

@@ -23,8 +23,8 @@ use Rattle.calendar.proofs.OneYear.{one}
 use Rattle.calendar.proofs.Answers.{Usable, usable-is, record-given, date-is}
 use Rattle.calendar.proofs.RoundTrip.{recorded-usable}
 use Rattle.calendar.proofs.Stepping.{next-of-record}
-use Rattle.receiver.specs.Times.{usableIn}
-use Rattle.receiver.proofs.Choices.{cond-elim}
+use Rattle.timekeeping.specs.Times.{usableIn}
+use Rattle.timekeeping.proofs.Choices.{cond-elim}
 use Rattle.journey.specs.Journey.{timeBlock}
 
 -- ---- usable

@@ -21,9 +21,11 @@ use Rattle.calendar.specs.declared.Dated.the-variants as dated
 use Rattle.calendar.specs.Years.{firstYear, lastFirstYear, span}
 use Rattle.calendar.specs.Dates.{dateOf, recordOf}
 use Rattle.calendar.specs.NextMinute.{nextMinuteOf, nextOfDate}
+use Rattle.timekeeping.specs.Proper.{isGiven}
+use Rattle.timekeeping.specs.Times.{none, candidate, confirmed, timeOf, usableIn}
+use Rattle.locking.specs.Locks.{locked, lockOf}
 use Rattle.receiver.specs.declared.State.{State}
-use Rattle.receiver.specs.States.{locked, none, candidate, confirmed, timeOf, lockOf, stateOf, isGiven, properOf}
-use Rattle.receiver.specs.Times.{usableIn}
+use Rattle.receiver.specs.States.{stateOf, properOf}
 use Rattle.receiver.specs.Runs.{ended, runOf}
 
 -- ---- what is sent

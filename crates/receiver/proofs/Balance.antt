@@ -7,14 +7,16 @@ use mathlib.Core.List.{List, [], _∷_}
 use lib.Dec.{ltb}
 use lib.ListN.{length}
 use Rattle.block.specs.Read.{readOf}
-use Rattle.receiver.specs.declared.Judged.{Judged}
+use Rattle.timekeeping.proofs.Choices.{cond-elim}
+use Rattle.locking.specs.declared.Judged.{Judged}
+use Rattle.locking.proofs.Choices.{judged-elim}
 use Rattle.receiver.specs.declared.Ran.{Ran}
 use Rattle.receiver.specs.declared.State.{State}
 use Rattle.receiver.specs.States.{lockIn, properOf}
 use Rattle.receiver.specs.Steps.{Step, stepOf}
 use Rattle.receiver.specs.Runs.{runFrom, runOf}
 use Rattle.receiver.specs.History.{bitsBefore}
-use Rattle.receiver.proofs.Choices.{cond-elim, judged-elim, filled, judges, step-elim}
+use Rattle.receiver.proofs.Choices.{filled, judges, step-elim}
 use Rattle.receiver.proofs.Small.{step-small}
 use Rattle.receiver.proofs.StaysProper.{room}
 

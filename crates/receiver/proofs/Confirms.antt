@@ -14,9 +14,9 @@ use Rattle.record.specs.Words as words
 use Rattle.calendar.specs.Days.{dayOfYear, dayInYear}
 use Rattle.calendar.specs.Dates.{usableOf}
 use Rattle.calendar.specs.NextMinute.{goOn, nextAfter, nextMinuteOf}
-use Rattle.receiver.specs.States.{candidate, confirmed, freshOf}
-use Rattle.receiver.specs.Times.{usableIn, sameMinute, follows, renewedBy, agedBy, offeredTo}
-use Rattle.receiver.specs.Modes.{hunted, tried, heldOn, judgedBy}
+use Rattle.timekeeping.specs.Times.{candidate, confirmed, usableIn, sameMinute, follows, renewedBy, agedBy, offeredTo}
+use Rattle.locking.specs.Modes.{hunted, tried, heldOn, judgedBy}
+use Rattle.receiver.specs.States.{freshOf}
 use Rattle.receiver.specs.Steps.{judgedStep, stepOf}
 use Rattle.receiver.specs.History.{afterFrom, after}
 

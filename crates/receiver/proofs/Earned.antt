@@ -3,7 +3,7 @@
 use Prim.Native.Nat.{ℕ, _+_, _*_, _≤_, _<_}
 use native.Mathlib.Omega.{arith}
 use mathlib.Core.Path.{_≡_, refl, sym, ap, _∙_}
-use mathlib.Core.Bool.{true, _&&_}
+use mathlib.Core.Bool.{true, _&&_, and-eq-true-iff}
 use mathlib.Core.List.{List, [], _∷_, _++_, append-nil}
 use borrow.Author.Tests.{eqb-true, eqb-false}
 use lib.Dec.{eqb, leb}
@@ -14,16 +14,18 @@ use Rattle.block.specs.Read.{readOf}
 use Rattle.record.specs.declared.Record.{Record}
 use Rattle.record.specs.declared.Recorded.{Recorded}
 use Rattle.record.specs.declared.Recorded.the-variants.{Given, Refused}
-use Rattle.record.proofs.Tests.{both}
-use Rattle.receiver.specs.declared.Judged.{Judged}
+use Rattle.timekeeping.specs.declared.Time.{Time}
+use Rattle.timekeeping.specs.Times.{none, candidate, confirmed, timeOf, noTime, follows, renewedBy, agedBy, offeredTo}
+use Rattle.timekeeping.proofs.Choices.{cond-elim}
+use Rattle.locking.specs.declared.Judged.{Judged}
+use Rattle.locking.specs.Locks.{locked, lockOf}
+use Rattle.locking.specs.Modes.{heldOn}
+use Rattle.locking.proofs.Choices.{held-elim, unlocked-elim}
 use Rattle.receiver.specs.declared.State.{State}
-use Rattle.receiver.specs.declared.Time.{Time}
-use Rattle.receiver.specs.States.{locked, none, candidate, confirmed, timeOf, noTime, lockOf, stateOf, lockIn, freshOf}
-use Rattle.receiver.specs.Times.{follows, renewedBy, agedBy, offeredTo}
-use Rattle.receiver.specs.Modes.{heldOn}
+use Rattle.receiver.specs.States.{stateOf, lockIn, freshOf}
 use Rattle.receiver.specs.Steps.{Step, stepOf}
 use Rattle.receiver.specs.History.{ranAll, fedAll, afterFrom, after, TimeBlock, HeldFrom, Held, Earned}
-use Rattle.receiver.proofs.Choices.{cond-elim, held-elim, unlocked-elim, filled, judges, step-elim}
+use Rattle.receiver.proofs.Choices.{filled, judges, step-elim}
 use Rattle.receiver.proofs.WholeHistory.{after-append, runs-after}
 use Rattle.receiver.proofs.EndOfHistory.{_▹_, length-more, block-more, locked-more, Waiting, waiting-more, block-now}
 
@@ -110,7 +112,7 @@ module _ (l : List ℕ) (b : ℕ) (s : State) (v : Evidence l s) where
         (λ held.
         cond-elim (λ (k : ℕ). Offered (timeOf k r 0)) (eqb (s .age + 1) 30 && follows (s .held) r)
         (λ e.
-        let c = both (eqb (s .age + 1) 30) _ e in
+        let c = and-eq-true-iff (eqb (s .age + 1) 30) _ .0 e in
         begun confirmed r block (λ _. (eqb-false (s .time) none held, eqb-true (s .age + 1) 30 (c .0), c .1)))
         (λ _. new))
 

@@ -13,13 +13,15 @@ use Rattle.block.specs.Read.{readOf}
 use Rattle.record.specs.declared.Record.{Record}
 use Rattle.record.specs.declared.Recorded.the-variants.{Given}
 use Rattle.record.proofs.Tests.{le-or-lt}
-use Rattle.receiver.specs.declared.Judged.{Judged}
+use Rattle.timekeeping.specs.Times.{usableIn}
+use Rattle.locking.specs.declared.Judged.{Judged}
+use Rattle.locking.specs.Locks.{locked}
+use Rattle.locking.proofs.Choices.{judged-elim}
 use Rattle.receiver.specs.declared.State.{State}
-use Rattle.receiver.specs.States.{locked, lockIn}
-use Rattle.receiver.specs.Times.{usableIn}
+use Rattle.receiver.specs.States.{lockIn}
 use Rattle.receiver.specs.Steps.{Step, waitingAfter, bitsAfter, stepOf}
 use Rattle.receiver.specs.History.{after, windowTo, TimeBlock, LockedSince}
-use Rattle.receiver.proofs.Choices.{judged-elim, filled, step-elim}
+use Rattle.receiver.proofs.Choices.{filled, step-elim}
 use Rattle.receiver.proofs.Small.{step-small, filled-places, step-places}
 
 -- a history and then one bit more

@@ -9,11 +9,11 @@ use borrow.Author.Tests.{lt-ltb, le-ltb}
 use lib.ListN.{length, getD, drop, set, drop-of-length-le}
 use lib.Seq.{drop-cons}
 use Rattle.block.specs.Read.{readOf}
-use Rattle.receiver.specs.declared.Judged.{Judged}
-use Rattle.receiver.specs.declared.Lock.{Lock}
+use Rattle.locking.specs.declared.Judged.{Judged}
+use Rattle.locking.specs.declared.Lock.{Lock}
+use Rattle.locking.specs.Modes.{judgedBy}
 use Rattle.receiver.specs.declared.State.{State}
 use Rattle.receiver.specs.States.{stateOf}
-use Rattle.receiver.specs.Modes.{judgedBy}
 use Rattle.receiver.specs.Steps.{stepOf, judgedStep, waitingAfter, bitsAfter}
 use Rattle.receiver.specs.Runs.{ended, runFrom}
 

@@ -8,13 +8,15 @@ use lib.Dec.{eqb}
 use lib.ListN.{length, length-append, length-drop, length-set}
 use Rattle.block.specs.Read.{readOf}
 use Rattle.block.specs.declared.Read.{Read}
-use Rattle.receiver.specs.declared.Judged.{Judged}
-use Rattle.receiver.specs.declared.Lock.{Lock}
+use Rattle.timekeeping.proofs.Choices.{cond-elim}
+use Rattle.locking.specs.declared.Judged.{Judged}
+use Rattle.locking.specs.declared.Lock.{Lock}
+use Rattle.locking.specs.Modes.{judgedBy}
+use Rattle.locking.proofs.Choices.{judged-elim}
 use Rattle.receiver.specs.declared.State.{State}
 use Rattle.receiver.specs.States.{lockIn}
-use Rattle.receiver.specs.Modes.{judgedBy}
 use Rattle.receiver.specs.Steps.{Step, bitsAfter, stepOf}
-use Rattle.receiver.proofs.Choices.{cond-elim, judged-elim, filled, judges, step-elim}
+use Rattle.receiver.proofs.Choices.{filled, judges, step-elim}
 
 pub record Small (t : Step) : Type 0 where
   pub good : t .good ≤ 1

@@ -10,12 +10,12 @@ use borrow.Author.Tests.{lt-ltb, le-ltb}
 use lib.Dec.{ltb}
 use lib.ListN.{length, length-append}
 use Rattle.block.specs.Bits.{Bits}
+use Rattle.timekeeping.proofs.Choices.{cond-elim}
 use Rattle.receiver.specs.declared.Ran.{Ran}
 use Rattle.receiver.specs.declared.State.{State}
 use Rattle.receiver.specs.States.{properOf}
 use Rattle.receiver.specs.Steps.{Step, stepOf}
 use Rattle.receiver.specs.Runs.{countsOf, runFrom, runOf, fedOf}
-use Rattle.receiver.proofs.Choices.{cond-elim}
 use Rattle.receiver.proofs.StaysProper.{Proper, run-proper}
 
 -- one fed bit answers as a run of that bit alone

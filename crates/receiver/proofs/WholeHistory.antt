@@ -9,13 +9,13 @@ use lib.Dec.{ltb}
 use lib.ListN.{length}
 use Rattle.block.specs.Bits.{Bits}
 use Rattle.block.proofs.Strings.{bits-append}
+use Rattle.timekeeping.proofs.Choices.{cond-elim}
 use Rattle.receiver.specs.declared.Ran.{Ran}
 use Rattle.receiver.specs.declared.State.{State}
 use Rattle.receiver.specs.States.{freshOf, properOf}
 use Rattle.receiver.specs.Steps.{stepOf}
 use Rattle.receiver.specs.Runs.{runFrom, runOf}
 use Rattle.receiver.specs.History.{bitsBefore, bitsFed, ranAll, fedAll, afterFrom, after}
-use Rattle.receiver.proofs.Choices.{cond-elim}
 use Rattle.receiver.proofs.StaysProper.{Proper, step-proper, run-proper, fresh-proper}
 
 pub after-append : (s : State) (xs ys : List ℕ) → afterFrom s (xs ++ ys) ≡ afterFrom (afterFrom s xs) ys

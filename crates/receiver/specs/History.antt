@@ -10,9 +10,10 @@ use lib.ListN.{length, take, drop}
 use Rattle.block.specs.Read.{readOf}
 use Rattle.record.specs.declared.Record.{Record}
 use Rattle.record.specs.declared.Recorded.the-variants.{Given}
+use Rattle.timekeeping.specs.Times.{usableIn, follows}
+use Rattle.locking.specs.Locks.{locked}
 use Rattle.receiver.specs.declared.State.{State}
-use Rattle.receiver.specs.States.{locked, freshOf}
-use Rattle.receiver.specs.Times.{usableIn, follows}
+use Rattle.receiver.specs.States.{freshOf}
 use Rattle.receiver.specs.Steps.{stepOf}
 use Rattle.receiver.specs.Runs.{runOf}
 

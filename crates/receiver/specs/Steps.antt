@@ -7,10 +7,10 @@ use lib.Dec.{eqb, ltb}
 use lib.ListN.{drop, set}
 use Rattle.block.specs.Bits.{zeros}
 use Rattle.block.specs.Read.{readOf}
-use Rattle.receiver.specs.declared.Judged.{Judged}
+use Rattle.locking.specs.declared.Judged.{Judged}
+use Rattle.locking.specs.Modes.{judgedBy}
 use Rattle.receiver.specs.declared.State.{State}
 use Rattle.receiver.specs.States.{stateOf, lockIn}
-use Rattle.receiver.specs.Modes.{judgedBy}
 
 -- what one bit counts, and the state after it
 pub record Step : Type 0 where

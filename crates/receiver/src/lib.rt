@@ -1,7 +1,5 @@
-// The receiver: hunting, trying, locked; a time that is held, aged, confirmed and forgotten.
-mod modes;
+// The receiver: bits wait in a window of fifty, which is judged when it is full; a step and a run.
 mod states;
-mod times;
 mod windows;
 
 ghost use mathlib.Core.Path.{_≡_};
@@ -9,12 +7,11 @@ ghost use Prim.Native.Nat.{_<_, _≤_};
 ghost use lib.ListN.{length};
 ghost use Rattle.receiver.specs.Runs.{ended, refusedRun, runFrom, runOf, fedOf};
 ghost use Rattle.receiver.specs.States.{freshOf, stateOf};
-use modes::judge_window;
 use record::Record;
-use states::fresh_lock;
 use states::is_proper;
 use states::lock_in;
 use states::state_of;
+use windows::judge_window;
 use windows::settle;
 
 // The state, as it is lent: plain numbers, and what is not in use is 0.
@@ -46,34 +43,11 @@ pub struct Ran {
     pub state: State,
 }
 
-// The time of a state.
-pub struct Time {
-    pub kind: u8,
-    pub held: Record,
-    pub age: u8,
-}
-
-// A state without its bits.
-pub struct Lock {
-    pub mode: u8,
-    pub good: u8,
-    pub bad: u8,
-    pub time: Time,
-}
-
-// What a judged window counts, and the lock after it.
-pub struct Judged {
-    pub good: u8,
-    pub bad: u8,
-    pub passed: u8,
-    pub lock: Lock,
-}
-
 // Hunting, with nothing waiting and no time.
 pub fn fresh() -> State
     ensures { λ s. ⌜ s ≡ freshOf ⌝ }
 {
-    state_of(fresh_lock(), 0, [0u8; 50])
+    state_of(locking::fresh_lock(), 0, [0u8; 50])
 }
 
 fn counted(refusal: u8, good: u32, bad: u32, passed: u32, state: State) -> Ran

@@ -1,10 +1,27 @@
-// The places of the waiting bits, after a judgement.
+// The window of fifty bits: judged, and settled after it.
 ghost use mathlib.Core.Bool.{cond};
 ghost use mathlib.Core.List.{[], _∷_, _++_};
 ghost use mathlib.Core.Path.{_≡_};
 ghost use lib.Dec.{eqb};
 ghost use lib.ListN.{drop, length};
 ghost use Rattle.block.specs.Bits.{zeros};
+ghost use Rattle.block.specs.Read.{readOf};
+ghost use Rattle.locking.specs.Modes.{judgedBy};
+use locking::Judged;
+use locking::Lock;
+
+// A full window. While hunting, one that starts with 0 is passed over and no more of it is looked at: that is half of all noise.
+pub fn judge_window(lock: Lock, window: &[u8]) -> Judged
+    requires { ⌜ length (now window) ≡ 50 ⌝ }
+    ensures { λ j. ⌜ j ≡ judgedBy lock (readOf (now (window .entry))) ⌝ }
+{
+    if lock.mode == 0 {
+        if window[0] != 1 {
+            return locking::passed_over(locking::fresh_lock());
+        }
+    }
+    locking::judge(lock, block::read_block(window))
+}
 
 // The oldest bit is passed over.
 fn shift(window: &mut [u8; 50])

@@ -7,7 +7,7 @@ use mathlib.Core.Path.{_≡_, refl, sym, _∙_}
 use Prim.Native.Nat.{ℕ, _≤_, _<_, _-_}
 use native.Mathlib.Omega.{arith}
 use lib.ListN.{length, getD, drop, set, length-set}
-use Rattle.receiver.specs.declared.Lock.{Lock}
+use Rattle.locking.specs.declared.Lock.{Lock}
 use Rattle.receiver.specs.declared.State.{State}
 use Rattle.receiver.specs.States.{stateOf, lockIn}
 use Rattle.receiver.specs.Runs.{runFrom}

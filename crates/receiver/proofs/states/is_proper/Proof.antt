@@ -22,8 +22,8 @@ bits-are-proper-requires c κs = search needs
 lock-in-requires : tie.Need-lock-in-requires
 lock-in-requires c κs = search needs
 
-lock-is-proper-requires : tie.Need-lock-is-proper-requires
-lock-is-proper-requires c κs = search needs
+is-proper-requires : tie.Need-is-proper-requires
+is-proper-requires c κs = search needs
 
 returns-2 : tie.Need-returns-2
 unfolding properOf
@@ -31,7 +31,7 @@ returns-2 c =
     let tested = c .before .before in
     let few = tested .before .before in
     let state = few .before .before .before .args .state in
-    rw (lt-ltb (state .waiting) 50 (omega arith), ← tested .before .bits-are-proper .ensures, tested .if2 .taken, c .lock-is-proper .ensures, c .before .lock-in .ensures)
+    rw (lt-ltb (state .waiting) 50 (omega arith), ← tested .before .bits-are-proper .ensures, tested .if2 .taken, c .is-proper .ensures, c .before .lock-in .ensures)
 
 returns-3 : tie.Need-returns-3
 unfolding properOf
@@ -48,6 +48,6 @@ is-proper-spec =
     returns
     bits-are-proper-requires
     lock-in-requires
-    lock-is-proper-requires
+    is-proper-requires
     returns-2
     returns-3)

@@ -1,0 +1,49 @@
+-- What is shown of each answer of a judgement holds of the judgement.
+-- Assumes nothing.
+use Prim.Native.Nat.{ℕ, _+_, _<_}
+use mathlib.Core.Path.{_≡_, refl}
+use borrow.Author.Tests.{leb-false}
+use lib.Dec.{eqb, leb}
+use Rattle.block.specs.declared.Read.{Read}
+use Rattle.timekeeping.specs.declared.Time.{Time}
+use Rattle.timekeeping.specs.Times.{none, usableIn, offeredTo}
+use Rattle.timekeeping.proofs.Choices.{cond-elim}
+use Rattle.locking.specs.declared.Judged.{Judged}
+use Rattle.locking.specs.declared.Lock.{Lock}
+use Rattle.locking.specs.Locks.{hunting, trying, locked, lockOf, freshLock}
+use Rattle.locking.specs.Modes.{isGood, goodBlock, badBlock, passedOver, hunted, tried, heldOn, judgedBy}
+
+-- a judged window is a good block, a bad one, or passes one bit over
+pub judged-elim : (P : Judged → Type 0) (l : Lock) (w : Read) → ((k : Lock) → P (goodBlock k)) → ((k : Lock) → P (badBlock k)) → P (passedOver freshLock) → P (judgedBy l w)
+unfolding judgedBy hunted tried heldOn
+judged-elim P l w good bad passed =
+    cond-elim P (eqb (l .mode) hunting) (λ _. cond-elim P (isGood w) (λ _. good _) (λ _. passed))
+    (λ _.
+    cond-elim P (eqb (l .mode) trying) (λ _. cond-elim P (isGood w) (λ _. good _) (λ _. bad _))
+    (λ _. cond-elim P (isGood w) (λ _. good _) (λ _. bad _)))
+
+-- a locked state stays so, with the block offered to its time, or it is fresh
+pub held-elim : (P : Judged → Type 0) (bad : ℕ) (t : Time) (w : Read) → P (goodBlock (lockOf locked 0 0 (offeredTo t (usableIn w)))) → P (badBlock freshLock)
+    → (bad + 1 < 4 → P (badBlock (lockOf locked 0 (bad + 1) (offeredTo t (usableIn w))))) → P (heldOn bad t w)
+unfolding heldOn
+held-elim P bad t w good lost kept =
+    cond-elim P (isGood w) (λ _. good)
+    (λ _. cond-elim (λ (l : Lock). P (badBlock l)) (leb 4 (bad + 1)) (λ _. lost) (λ e. kept (leb-false 4 (bad + 1) e)))
+
+-- a state that was not locked holds no time after a window
+pub unlocked-elim : (P : Judged → Type 0) (l : Lock) (w : Read) → ((j : Judged) → j .lock .time .kind ≡ none → P j) → P (heldOn (l .bad) (l .time) w) → P (judgedBy l w)
+unfolding judgedBy hunted tried
+unlocked-elim P l w unlocked held =
+    cond-elim P (eqb (l .mode) hunting) (λ _. cond-elim P (isGood w) (λ _. unlocked _ refl) (λ _. unlocked _ refl))
+    (λ _.
+    cond-elim P (eqb (l .mode) trying)
+    (λ _.
+    cond-elim P (isGood w)
+    (λ _. cond-elim (λ (l : Lock). P (goodBlock l)) (leb 3 (l .good + 1)) (λ _. unlocked _ refl) (λ _. unlocked _ refl))
+    (λ _. unlocked _ refl))
+    (λ _. held))
+
+-- a window of a locked state
+pub held-judged : (l : Lock) (w : Read) → l .mode ≡ locked → judgedBy l w ≡ heldOn (l .bad) (l .time) w
+unfolding judgedBy
+held-judged l w m = rw m

@@ -1,0 +1,21 @@
+-- A proper lock that is not locked holds no time, by the tests of hunting and of trying.
+-- Assumes nothing.
+use mathlib.Core.Path.{_≡_}
+use mathlib.Core.Bool.{Bool, true, and-eq-true-iff}
+use borrow.Author.Tests.{eqb-true}
+use lib.Dec.{eqb, leb}
+use Rattle.timekeeping.specs.Times.{noTime}
+use Rattle.timekeeping.proofs.Choices.{cond-elim}
+use Rattle.timekeeping.proofs.NoTime.{zero-time}
+use Rattle.locking.specs.declared.Lock.{Lock}
+use Rattle.locking.specs.Locks.{hunting, trying, locked, lockProper}
+
+pub lock-time : (l : Lock) → lockProper l ≡ true → (l .mode ≡ locked → ⊥) → l .time ≡ noTime
+unfolding lockProper
+lock-time l =
+    let P : Bool → Type 0 = λ t. t ≡ true → (l .mode ≡ locked → ⊥) → l .time ≡ noTime in
+    cond-elim P (eqb (l .mode) hunting) (λ _ e _. zero-time (l .time) (and-eq-true-iff (eqb (l .bad) 0) _ .0 (and-eq-true-iff (eqb (l .good) 0) _ .0 e .1) .1))
+    (λ _.
+    cond-elim P (eqb (l .mode) trying)
+    (λ _ e _. zero-time (l .time) (and-eq-true-iff (eqb (l .bad) 0) _ .0 (and-eq-true-iff (leb (l .good) 2) _ .0 (and-eq-true-iff (leb 1 (l .good)) _ .0 e .1) .1) .1))
+    (λ _ e n. absurd (n (eqb-true (l .mode) 2 (and-eq-true-iff (eqb (l .mode) locked) _ .0 e .0)))))

@@ -1,0 +1,53 @@
+-- A proper lock stays proper, whatever window is judged: each answer keeps the counts and the time within what is proper.
+-- Assumes nothing.
+use Prim.Native.Nat.{ℕ, _+_, _≤_}
+use native.Mathlib.Omega.{arith}
+use mathlib.Core.Path.{_≡_, refl}
+use mathlib.Core.Bool.{true, and-eq-true-iff}
+use borrow.Author.Tests.{leb-true, le-leb, leb-false}
+use lib.Dec.{eqb, leb}
+use Rattle.block.specs.declared.Read.{Read}
+use Rattle.timekeeping.specs.declared.Time.{Time}
+use Rattle.timekeeping.specs.Times.{usableIn, offeredTo}
+use Rattle.timekeeping.specs.Proper.{isNoTime, isZeroRecord, timeProper}
+use Rattle.timekeeping.proofs.Choices.{cond-elim, and-i}
+use Rattle.timekeeping.proofs.StaysProper.{usable-in, time-offered}
+use Rattle.locking.specs.declared.Judged.{Judged}
+use Rattle.locking.specs.declared.Lock.{Lock}
+use Rattle.locking.specs.Locks.{hunting, trying, locked, lockProper}
+use Rattle.locking.specs.Modes.{isGood, hunted, tried, heldOn, judgedBy}
+use Rattle.locking.proofs.Choices.{held-elim}
+
+abbrev pub Kept : Judged → Type 0
+Kept j = lockProper (j .lock) ≡ true
+
+tried-proper : (good : ℕ) (w : Read) → good ≤ 2 → Kept (tried good w)
+unfolding tried lockProper timeProper isNoTime isZeroRecord
+tried-proper good w h =
+    cond-elim Kept (isGood w)
+    (λ _.
+    cond-elim (λ (l : Lock). lockProper l ≡ true) (leb 3 (good + 1)) (λ _. refl)
+    (λ e. and-i (le-leb 1 (good + 1) (omega arith)) (and-i (le-leb (good + 1) 2 (omega (arith, leb-false 3 (good + 1) e))) refl)))
+    (λ _. refl)
+
+held-proper : (bad : ℕ) (t : Time) (w : Read) → bad ≤ 3 → timeProper t ≡ true → Kept (heldOn bad t w)
+unfolding lockProper isNoTime isZeroRecord
+held-proper bad t w h e =
+    let o : timeProper (offeredTo t (usableIn w)) ≡ true = time-offered t (usableIn w) (usable-in w) e in
+    held-elim Kept bad t w o refl (λ f. and-i (le-leb (bad + 1) 3 (omega arith)) o)
+
+hunted-proper : (w : Read) → Kept (hunted w)
+unfolding hunted lockProper isNoTime isZeroRecord
+hunted-proper w = cond-elim Kept (isGood w) (λ _. refl) (λ _. refl)
+
+-- the lock after a window is proper where the lock before it was
+pub judged-proper : (l : Lock) (w : Read) → lockProper l ≡ true → Kept (judgedBy l w)
+unfolding judgedBy lockProper
+judged-proper l w e =
+    cond-elim Kept (eqb (l .mode) hunting) (λ _. hunted-proper w)
+    (λ a.
+    cond-elim Kept (eqb (l .mode) trying)
+    (λ b. let p = and-eq-true-iff (leb (l .good) 2) _ .0 (and-eq-true-iff (leb 1 (l .good)) _ .0 (rw (a, b) at e) .1) in tried-proper (l .good) w (leb-true (l .good) 2 (p .0)))
+    (λ b.
+    let p = and-eq-true-iff (leb (l .bad) 3) _ .0 (and-eq-true-iff (eqb (l .good) 0) _ .0 (and-eq-true-iff (eqb (l .mode) locked) _ .0 (rw (a, b) at e) .1) .1) in
+    held-proper (l .bad) (l .time) w (leb-true (l .bad) 3 (p .0)) (p .1)))

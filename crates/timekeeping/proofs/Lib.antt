@@ -1,0 +1,4 @@
+pub mod Choices
+pub mod StaysProper
+pub mod NoTime
+pub mod Determined

@@ -1,0 +1,69 @@
+-- The time: held, aged, confirmed and forgotten (01, "Hunting, trying, locked").
+-- Assumes nothing.
+use Prim.Native.Nat.{ℕ, _+_}
+use mathlib.Core.Bool.{Bool, false, cond, _&&_}
+use lib.Dec.{eqb, leb}
+use Rattle.block.specs.declared.Read.{Read}
+use Rattle.block.specs.declared.Read.the-variants as read
+use Rattle.record.specs.declared.Record.{Record}
+use Rattle.record.specs.declared.Recorded.{Recorded}
+use Rattle.record.specs.declared.Recorded.the-variants.{Given, Refused}
+use Rattle.record.specs.Given.{zeroRecord}
+use Rattle.record.specs.Words as words
+use Rattle.calendar.specs.Dates.{usableOf}
+use Rattle.calendar.specs.NextMinute.{nextMinuteOf}
+use Rattle.timekeeping.specs.declared.Time.{Time}
+
+-- the numbers of the kinds of time
+abbrev pub none : ℕ
+none = 0
+
+abbrev pub candidate : ℕ
+candidate = 1
+
+abbrev pub confirmed : ℕ
+confirmed = 2
+
+-- a time that holds a record at an age in blocks, and no time, whose places are 0
+abbrev pub timeOf : ℕ → Record → ℕ → Time
+timeOf kind held age = record { kind = kind; held = held; age = age }
+
+abbrev pub noTime : Time
+noTime = timeOf none zeroRecord 0
+
+-- a usable time block is a good time block whose fields are in range and whose day is in its year: its record
+abbrev pub thenUsable : Recorded → Recorded
+thenUsable (Given r) = usableOf r
+thenUsable (Refused why) = Refused why
+
+unfoldable pub usableIn : Read → Recorded
+usableIn (read.Block code word) = thenUsable (words.readOf code word)
+usableIn (read.Refused why) = Refused why
+
+-- minute, hour, weekday, week, start day and leap code are the same; the offset is not asked
+unfoldable pub sameMinute : Record → Record → Bool
+sameMinute n r =
+    eqb (n .minute) (r .minute)
+    && (eqb (n .hour) (r .hour)
+    && (eqb (n .weekday) (r .weekday) && (eqb (n .week) (r .week) && (eqb (n .«start_day») (r .«start_day») && eqb (n .leap) (r .leap)))))
+
+abbrev pub isMinute : Recorded → Record → Bool
+isMinute (Given n) r = sameMinute n r
+isMinute (Refused why) r = false
+
+-- the record's minute is that of the held record's next minute; a held record without one is never followed
+unfoldable pub follows : Record → Record → Bool
+follows held r = isMinute (nextMinuteOf held) r
+
+-- A block is offered, and the age grows by 1. A usable block at age 30 that follows the held record confirms the time; any
+-- other usable block makes a candidate, also with nothing held. Both hold the new record at age 0
+unfoldable pub renewedBy : Time → Record → Time
+renewedBy t r = timeOf (cond (eqb (t .kind) none) candidate (cond (eqb (t .age + 1) 30 && follows (t .held) r) confirmed candidate)) r 0
+
+-- a block that is not usable lets the time go at age 30
+unfoldable pub agedBy : Time → Time
+agedBy t = cond (eqb (t .kind) none) noTime (cond (leb 30 (t .age + 1)) noTime (timeOf (t .kind) (t .held) (t .age + 1)))
+
+unfoldable pub offeredTo : Time → Recorded → Time
+offeredTo t (Given r) = renewedBy t r
+offeredTo t (Refused why) = agedBy t

@@ -1,0 +1,172 @@
+// The time: held, aged, confirmed and forgotten, block by block; and when it is proper.
+ghost use mathlib.Core.Path.{_≡_};
+ghost use Rattle.calendar.specs.Dates.{usableOf};
+ghost use Rattle.timekeeping.specs.Proper.{isZeroRecord, isNoTime, isGiven, timeProper};
+ghost use Rattle.timekeeping.specs.Times.{timeOf, noTime, usableIn, sameMinute, follows, renewedBy, agedBy, offeredTo};
+use block::Read;
+use record::Record;
+use record::Recorded;
+
+// None (0), a candidate (1) or confirmed (2); the record that is held, and its age in blocks.
+pub struct Time {
+    pub kind: u8,
+    pub held: Record,
+    pub age: u8,
+}
+
+fn time_of(kind: u8, held: Record, age: u8) -> Time
+    ensures { λ t. ⌜ t ≡ timeOf kind held age ⌝ }
+{
+    Time { kind, held, age }
+}
+
+// No time: every place is 0.
+pub fn no_time() -> Time
+    ensures { λ t. ⌜ t ≡ noTime ⌝ }
+{
+    let held = Record {
+        leap: 0,
+        start_day: 0,
+        week: 0,
+        weekday: 0,
+        hour: 0,
+        minute: 0,
+        offset: 0,
+    };
+    time_of(0, held, 0)
+}
+
+// The record of a usable time block.
+fn usable_in(read: Read) -> Recorded
+    ensures { λ r. ⌜ r ≡ usableIn read ⌝ }
+{
+    match read {
+        Read::Block { code, word } => match record::read_record(code, word) {
+            Recorded::Given(r) => calendar::usable(r),
+            Recorded::Refused(why) => Recorded::Refused(why),
+        },
+        Read::Refused(why) => Recorded::Refused(why),
+    }
+}
+
+// All but the offset is the same.
+fn same_minute(n: Record, r: Record) -> bool
+    ensures { λ t. ⌜ t ≡ sameMinute n r ⌝ }
+{
+    if n.minute != r.minute {
+        return false;
+    }
+    if n.hour != r.hour {
+        return false;
+    }
+    if n.weekday != r.weekday {
+        return false;
+    }
+    if n.week != r.week {
+        return false;
+    }
+    if n.start_day != r.start_day {
+        return false;
+    }
+    n.leap == r.leap
+}
+
+// The record's minute is the held record's next.
+fn comes_next(held: Record, r: Record) -> bool
+    ensures { λ t. ⌜ t ≡ follows held r ⌝ }
+{
+    match calendar::next_minute(held) {
+        Recorded::Given(n) => same_minute(n, r),
+        Recorded::Refused(_) => false,
+    }
+}
+
+// A usable record is offered: it confirms the held one a minute on, and is a candidate otherwise.
+fn renewed(time: Time, r: Record) -> Time
+    ensures { λ t. ⌜ t ≡ renewedBy time r ⌝ }
+{
+    if time.kind != 0 {
+        if time.age == 29 {
+            if comes_next(time.held, r) {
+                return time_of(2, r, 0);
+            }
+        }
+    }
+    time_of(1, r, 0)
+}
+
+// A block that is not usable is offered: the held record grows older, up to a minute.
+fn aged(time: Time) -> Time
+    ensures { λ t. ⌜ t ≡ agedBy time ⌝ }
+{
+    if time.kind == 0 {
+        return no_time();
+    }
+    if time.age < 29 {
+        time_of(time.kind, time.held, time.age + 1)
+    } else {
+        no_time()
+    }
+}
+
+// A block is offered to the time, good or bad.
+pub fn offered_to(time: Time, read: Read) -> Time
+    ensures { λ t. ⌜ t ≡ offeredTo time (usableIn read) ⌝ }
+{
+    match usable_in(read) {
+        Recorded::Given(r) => renewed(time, r),
+        Recorded::Refused(_) => aged(time),
+    }
+}
+
+// ---- proper
+
+fn is_zero_record(r: Record) -> bool
+    ensures { λ t. ⌜ t ≡ isZeroRecord r ⌝ }
+{
+    let year = r.leap as u16 + r.start_day as u16;
+    let day = r.week as u16 + r.weekday as u16;
+    let time = r.hour as u16 + r.minute as u16;
+    if year + day + time == 0 {
+        r.offset == 0
+    } else {
+        false
+    }
+}
+
+pub fn is_no_time(time: Time) -> bool
+    ensures { λ t. ⌜ t ≡ isNoTime time ⌝ }
+{
+    if time.kind != 0 {
+        return false;
+    }
+    if time.age != 0 {
+        return false;
+    }
+    is_zero_record(time.held)
+}
+
+fn is_usable(r: Record) -> bool
+    ensures { λ t. ⌜ t ≡ isGiven (usableOf r) ⌝ }
+{
+    match calendar::usable(r) {
+        Recorded::Given(_) => true,
+        Recorded::Refused(_) => false,
+    }
+}
+
+pub fn is_proper(time: Time) -> bool
+    ensures { λ t. ⌜ t ≡ timeProper time ⌝ }
+{
+    if time.kind == 0 {
+        return is_no_time(time);
+    }
+    if 2 < time.kind {
+        return false;
+    }
+    if time.age < 30 {
+        is_usable(time.held)
+    } else {
+        false
+    }
+}
