@@ -4,30 +4,30 @@ use Prim.Native.Nat.{ℕ, _+_, _*_, _≤_, _<_}
 use native.Mathlib.Omega.{arith}
 use mathlib.Core.Path.{_≡_, refl, sym, ap, _∙_}
 use mathlib.Core.Bool.{true, _&&_, and-eq-true-iff}
-use mathlib.Core.List.{List, [], _∷_, _++_, append-nil}
+use mathlib.Core.List.{List, []}
 use borrow.Author.Tests.{eqb-true, eqb-false}
 use lib.Dec.{eqb, leb}
 use lib.ListN.{length}
-use lib.Seq.{append-snoc, take-all, take-length}
-use Rattle.block.specs.Bits.{zeros}
+use lib.Seq.{take-all}
 use Rattle.block.specs.Read.{readOf}
 use Rattle.record.specs.declared.Record.{Record}
 use Rattle.record.specs.declared.Recorded.{Recorded}
 use Rattle.record.specs.declared.Recorded.the-variants.{Given, Refused}
 use Rattle.timekeeping.specs.declared.Time.{Time}
-use Rattle.timekeeping.specs.Times.{none, candidate, confirmed, timeOf, noTime, follows, renewedBy, agedBy, offeredTo}
+use Rattle.timekeeping.specs.Times.{none, candidate, confirmed, timeOf, noTime, usableIn, follows, renewedBy, agedBy, offeredTo}
 use Rattle.timekeeping.proofs.Choices.{cond-elim}
 use Rattle.locking.specs.declared.Judged.{Judged}
 use Rattle.locking.specs.Locks.{locked, lockOf}
 use Rattle.locking.specs.Modes.{heldOn}
 use Rattle.locking.proofs.Choices.{held-elim, unlocked-elim}
 use Rattle.receiver.specs.declared.State.{State}
-use Rattle.receiver.specs.States.{stateOf, lockIn, freshOf}
+use Rattle.receiver.specs.States.{lockIn, freshOf}
 use Rattle.receiver.specs.Steps.{Step, stepOf}
-use Rattle.receiver.specs.History.{ranAll, fedAll, afterFrom, after, TimeBlock, HeldFrom, Held, Earned}
+use Rattle.receiver.specs.History.{ranAll, fedAll, after, nothingWaits, TimeBlock, HeldFrom, Held, Earned}
 use Rattle.receiver.proofs.Choices.{filled, judges, step-elim}
-use Rattle.receiver.proofs.WholeHistory.{after-append, runs-after}
-use Rattle.receiver.proofs.EndOfHistory.{_▹_, length-more, block-more, locked-more, Waiting, waiting-more, block-now}
+use Rattle.receiver.proofs.EachMode.{mode-of}
+use Rattle.receiver.proofs.WholeHistory.{runs-after}
+use Rattle.receiver.proofs.EndOfHistory.{_▹_, length-more, block-more, locked-now, locked-more, Waiting, block-now, each-state}
 
 -- what a state's time comes from, where it holds one
 record Evidence (l : List ℕ) (s : State) : Type 0 where
@@ -38,11 +38,11 @@ no-evidence : (l : List ℕ) (s : State) → s .time ≡ none → Evidence l s
 no-evidence l s e = record { held = λ h. absurd (h e); earned = λ c. absurd (omega arith) }
 
 held-locked-now : (l : List ℕ) (s : State) → Held l s → after l .mode ≡ locked
-held-locked-now l s h = rw take-length at (h .unbroken (length l) (omega (arith, h .from .aged)) (omega arith))
+held-locked-now l s h = locked-now l (h .unbroken) (omega (arith, h .from .aged))
 
 -- a locked state whose last block is used up
 abbrev lockedWith : ℕ → Time → State
-lockedWith bad t = stateOf (lockOf locked 0 bad t) 0 (zeros 50)
+lockedWith bad t = nothingWaits (lockOf locked 0 bad t)
 
 module _ (l : List ℕ) (b : ℕ) (s : State) (v : Evidence l s) where
   -- ---- the time is kept for one bit more
@@ -130,50 +130,36 @@ module _ (l : List ℕ) (b : ℕ) (s : State) (v : Evidence l s) where
 
 -- ---- every step
 
-abbrev mode-of : {s t : State} → s ≡ t → s .mode ≡ t .mode
-mode-of e = ap (λ (s : State). s .mode) e
-
-module _ (l : List ℕ) (b : ℕ) (s : State) (p : Waiting l s) (v : Evidence l s) where
+module _ (l : List ℕ) (b : ℕ) (s : State) (p : Waiting l s) (v : Evidence l s) (here : after l ≡ s) where
   -- what a step leads to, where it is the one taken
   abbrev Evident : Step → Type 0
   Evident t = after (l ▹ b) ≡ t .next → Evidence (l ▹ b) (t .next)
 
-  held-evident : 49 ≤ s .waiting → Evident (judges (filled s b) (heldOn (s .bad) (lockIn s .time) (readOf (filled s b))))
+  abbrev Judges : Judged → Type 0
+  Judges j = Evident (judges (filled s b) j)
+
+  held-evident : 49 ≤ s .waiting → Judges (heldOn (s .bad) (lockIn s .time) (readOf (filled s b)))
   held-evident h =
       let full : s .waiting ≡ 49 = omega arith in
-      let blocks = block-now l b s p h in
-      held-elim (λ (j : Judged). Evident (judges (filled s b) j)) (s .bad) _ (readOf (filled s b)) (λ e. offered l b s v 0 full (mode-of e) _ blocks)
-      (λ _. no-evidence _ _ refl) (λ _ e. offered l b s v (s .bad + 1) full (mode-of e) _ blocks)
+      let blocks : (r : Record) → usableIn (readOf (filled s b)) ≡ Given r → TimeBlock (l ▹ b) (length (l ▹ b)) r = λ r. block-now l b s p h in
+      held-elim Judges (s .bad) _ (readOf (filled s b)) (λ e. offered l b s v 0 full (mode-of e) _ blocks) (λ _. no-evidence _ _ refl)
+      (λ _ e. offered l b s v (s .bad + 1) full (mode-of e) _ blocks)
 
-  evident : after l ≡ s → Evident (stepOf s b)
-  evident here =
+  evident : Evident (stepOf s b)
+  evident =
       step-elim Evident s b (λ few e. kept l b s v _ refl refl (omega arith) (omega arith) (λ h. mode-of e ∙ sym (mode-of here) ∙ held-locked-now l s (v .held h)))
-      (λ h.
-      unlocked-elim (λ (j : Judged). Evident (judges (filled s b) j)) (lockIn s) (readOf (filled s b)) (λ j e _. no-evidence _ _ e) (held-evident h))
+      (λ full.
+      unlocked-elim Judges (lockIn s) (readOf (filled s b)) (λ j e _. no-evidence _ _ e) (held-evident full))
 
 -- ---- every history
 
-record Known (l : List ℕ) : Type 0 where
-  waiting : Waiting l (after l)
-  evidence : Evidence l (after l)
-
-known-more : (l : List ℕ) (b : ℕ) → Known l → Known (l ▹ b)
-unfolding afterFrom
-known-more l b k =
-    let e : after (l ▹ b) ≡ stepOf (after l) b .next = after-append freshOf l (b ∷ []) in
-    record { waiting = rw e (waiting-more l b (after l) (k .waiting)); evidence = rw e (evident l b (after l) (k .waiting) (k .evidence) refl e) }
-
-known-on : (l rest : List ℕ) → Known l → Known (l ++ rest)
-known-on l [] k = rw append-nil k
-known-on l (b ∷ rest) k = rw (← append-snoc l b rest) (known-on (l ▹ b) rest (known-more l b k))
-
-known : (l : List ℕ) → Known l
-unfolding afterFrom freshOf
-known l = known-on [] l (record { waiting = record { places = refl; room = omega arith; ends = ([], refl) }; evidence = no-evidence [] _ refl })
+evidence : (l : List ℕ) → Evidence l (after l)
+unfolding freshOf
+evidence = each-state Evidence evident (no-evidence [] _ refl)
 
 -- a held time comes from a usable time block, as many whole blocks ago as its age, and lock was not lost since
 pub held-is-read : (l : List ℕ) → (after l .time ≡ none → ⊥) → Held l (after l)
-held-is-read l = known l .evidence .held
+held-is-read l = evidence l .held
 
 -- after any bits, a time is held only when locked
 pub held-is-locked : (l : List ℕ) → (after l .time ≡ none → ⊥) → after l .mode ≡ locked
@@ -181,7 +167,7 @@ held-is-locked l h = held-locked-now l (after l) (held-is-read l h)
 
 -- whatever was fed, a confirmed time was earned
 pub confirmed-is-earned : (l : List ℕ) → after l .time ≡ confirmed → Earned l (after l)
-confirmed-is-earned l = known l .evidence .earned
+confirmed-is-earned l = evidence l .earned
 
 -- the same of the runs that were called, whatever they held and were refused with
 pub runs-earned : (runs : List (List ℕ)) → ranAll freshOf runs .time ≡ confirmed → Earned (fedAll runs) (ranAll freshOf runs)

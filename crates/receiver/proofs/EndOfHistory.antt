@@ -1,33 +1,48 @@
--- What waits is the end of the history, so the window that a bit fills is that of its last fifty bits; and what the history
--- held before a bit it holds after it.
+-- What waits is the end of the history, so the window that a bit fills is that of its last fifty bits; what the history held
+-- before a bit it holds after it; and what each step keeps holds after every history.
 -- Assumes nothing.
 use Prim.Native.Nat.{ℕ, _+_, _-_, _≤_, _<_}
 use native.Mathlib.Omega.{arith}
 use native.Mathlib.Numerals.{add-one}
-use mathlib.Core.Path.{_≡_, sym, ap, _∙_}
+use mathlib.Core.Path.{_≡_, refl, sym, ap, _∙_}
 use mathlib.Core.List.{List, [], _∷_, _++_, append-assoc, append-nil}
 use mathlib.Core.Logic.{⊎-elim}
 use lib.ListN.{length, take, drop, length-append, length-drop, take-append-drop}
-use lib.Seq.{take-all, take-append-le, drop-append-le, take-suc-set, take-at, drop-at}
+use lib.Seq.{append-snoc, take-all, take-length, take-append-le, drop-append-le, take-suc-set, take-at, drop-at}
 use Rattle.block.specs.Read.{readOf}
-use Rattle.record.specs.declared.Record.{Record}
-use Rattle.record.specs.declared.Recorded.the-variants.{Given}
+use Rattle.block.specs.declared.Read.{Read}
 use Rattle.record.proofs.Tests.{le-or-lt}
-use Rattle.timekeeping.specs.Times.{usableIn}
 use Rattle.locking.specs.declared.Judged.{Judged}
 use Rattle.locking.specs.Locks.{locked}
 use Rattle.locking.proofs.Choices.{judged-elim}
 use Rattle.receiver.specs.declared.State.{State}
-use Rattle.receiver.specs.States.{lockIn}
+use Rattle.receiver.specs.States.{lockIn, freshOf}
 use Rattle.receiver.specs.Steps.{Step, waitingAfter, bitsAfter, stepOf}
-use Rattle.receiver.specs.History.{after, windowTo, TimeBlock, LockedSince}
+use Rattle.receiver.specs.History.{afterFrom, after, afterFirst, windowTo, BlockTo, JudgedInPlace, LockedSince}
 use Rattle.receiver.proofs.Choices.{filled, step-elim}
+use Rattle.receiver.proofs.WholeHistory.{after-append}
 use Rattle.receiver.proofs.Small.{step-small, filled-places, step-places}
 
 -- a history and then one bit more
 infixl 20 _▹_
 abbrev pub _▹_ : List ℕ → ℕ → List ℕ
 l ▹ b = l ++ b ∷ []
+
+-- what holds before any bit, and with each bit of what held before it, holds of every history
+module _ (P : List ℕ → Type 0) (more : (l : List ℕ) (b : ℕ) → P l → P (l ▹ b)) where
+  goes-on : (l rest : List ℕ) → P l → P (l ++ rest)
+  goes-on l [] p = rw append-nil p
+  goes-on l (b ∷ rest) p = rw (← append-snoc l b rest) (goes-on (l ▹ b) rest (more l b p))
+
+  each-history : P [] → (l : List ℕ) → P l
+  each-history start l = goes-on [] l start
+
+after-more : (l : List ℕ) (b : ℕ) → after (l ▹ b) ≡ stepOf (after l) b .next
+unfolding afterFrom
+after-more l b = after-append freshOf l (b ∷ [])
+
+pub locked-now : (l : List ℕ) {n : ℕ} → LockedSince l n → n ≤ length l → after l .mode ≡ locked
+locked-now l since h = rw take-length at (since (length l) h (omega arith))
 
 module _ (l : List ℕ) (b : ℕ) where
   pub length-more : length (l ▹ b) ≡ length l + 1
@@ -38,12 +53,18 @@ module _ (l : List ℕ) (b : ℕ) where
       ap (take 50) (drop-append-le (n - 50) l (b ∷ []) (omega arith))
       ∙ take-append-le 50 (drop (n - 50) l) (b ∷ []) (omega (arith, length-drop (n - 50) l))
 
-  pub block-more : {n : ℕ} {r : Record} → TimeBlock l n r → TimeBlock (l ▹ b) n r
-  block-more {n} t = record { from = t .from; to = omega (arith, length-more); reads = rw (window-more n (t .from) (t .to)) (t .reads) }
+  pub block-more : {asked : Read → Type 0} {n : ℕ} → BlockTo asked l n → BlockTo asked (l ▹ b) n
+  block-more {n = n} t = record { from = t .from; to = omega (arith, length-more); reads = rw (window-more n (t .from) (t .to)) (t .reads) }
+
+  pub first-more : (n : ℕ) → n ≤ length l → afterFirst n (l ▹ b) ≡ afterFirst n l
+  first-more n h = ap after (take-append-le n l (b ∷ []) h)
+
+  pub judged-more : (n : ℕ) → 50 ≤ n → n ≤ length l → JudgedInPlace l n → JudgedInPlace (l ▹ b) n
+  judged-more n h k j = rw (first-more n k, first-more (n - 50) (omega arith), window-more n h k) j
 
   pub locked-more : {n : ℕ} → LockedSince l n → after (l ▹ b) .mode ≡ locked → LockedSince (l ▹ b) n
   locked-more since now m from to =
-      ⊎-elim (λ h. rw (take-append-le m l (b ∷ []) h) (since m from h))
+      ⊎-elim (λ h. rw (first-more m h) (since m from h))
       (λ h. rw (take-all m (l ▹ b) (omega (arith, length-more))) now) (le-or-lt m (length l))
 
 -- the history ends with the first of these bits, as many as wait
@@ -79,7 +100,7 @@ module _ (l : List ℕ) (b : ℕ) (s : State) (p : Waiting l s) where
       judged-elim (λ (j : Judged). Ends (l ▹ b) (waitingAfter j) (bitsAfter j (filled s b))) (lockIn s) (readOf (filled s b)) (λ _. used) (λ _. used)
       (rw (ends-full h) (ends-on (p .ends .0) (filled s b) places-more)))
 
-  pub waiting-more : Waiting (l ▹ b) (stepOf s b .next)
+  waiting-more : Waiting (l ▹ b) (stepOf s b .next)
   waiting-more = record { places = step-places s b (p .places); room = step-small s b .room; ends = step-ends }
 
   -- the full window ends now
@@ -87,11 +108,26 @@ module _ (l : List ℕ) (b : ℕ) (s : State) (p : Waiting l s) where
     length-full : length (l ▹ b) ≡ length (p .ends .0) + 50
     length-full = ap length (ends-full h) ∙ omega (arith, length-append (p .ends .0) (filled s b), places-more)
 
-    window-now : windowTo (length (l ▹ b)) (l ▹ b) ≡ filled s b
+    pub window-now : windowTo (length (l ▹ b)) (l ▹ b) ≡ filled s b
     window-now =
         ap (λ (k : List ℕ). take 50 (drop (length (l ▹ b) - 50) k)) (ends-full h)
         ∙ ap (take 50) (drop-at (p .ends .0) (filled s b) (length (l ▹ b) - 50) (omega (arith, length-full)))
         ∙ take-all 50 (filled s b) (omega (arith, places-more))
 
-    pub block-now : (r : Record) → usableIn (readOf (filled s b)) ≡ Given r → TimeBlock (l ▹ b) (length (l ▹ b)) r
-    block-now r e = record { from = omega (arith, length-full); to = omega arith; reads = rw window-now e }
+    pub block-now : {asked : Read → Type 0} → asked (readOf (filled s b)) → BlockTo asked (l ▹ b) (length (l ▹ b))
+    block-now e = record { from = omega (arith, length-full); to = omega arith; reads = rw window-now e }
+
+-- so it is after every history
+waiting-after : (l : List ℕ) → Waiting l (after l)
+unfolding afterFrom freshOf
+waiting-after =
+    each-history (λ (l : List ℕ). Waiting l (after l)) (λ l b p. rw (after-more l b) (waiting-more l b (after l) p))
+    (record { places = refl; room = omega arith; ends = ([], refl) })
+
+-- what holds of the fresh state, and of each step that is taken, holds after every history
+pub each-state : (P : List ℕ → State → Type 0)
+    → ((l : List ℕ) (b : ℕ) (s : State) → Waiting l s → P l s → after l ≡ s → after (l ▹ b) ≡ stepOf s b .next → P (l ▹ b) (stepOf s b .next))
+    → P [] freshOf → (l : List ℕ) → P l (after l)
+unfolding afterFrom
+each-state P more =
+    each-history (λ (l : List ℕ). P l (after l)) (λ l b p. rw (after-more l b) (more l b (after l) (waiting-after l) p refl (after-more l b)))

@@ -1,5 +1,5 @@
--- What was fed, looked back on: the bits that runs feed, the state after a history of bits, and what in the history a held or
--- a confirmed time comes from (01, "Hunting, trying, locked").
+-- What was fed, looked back on: the bits that runs feed, the state after a history of bits, and what in the history a lock, a
+-- held and a confirmed time come from (01, "Hunting, trying, locked").
 -- Assumes nothing.
 use Prim.Native.Nat.{ℕ, _+_, _-_, _*_, _≤_, _<_}
 use mathlib.Core.Path.{_≡_}
@@ -7,13 +7,17 @@ use mathlib.Core.Bool.{true, cond}
 use mathlib.Core.List.{List, [], _∷_, _++_}
 use lib.Dec.{ltb}
 use lib.ListN.{length, take, drop}
+use Rattle.block.specs.Bits.{zeros}
 use Rattle.block.specs.Read.{readOf}
+use Rattle.block.specs.declared.Read.{Read}
 use Rattle.record.specs.declared.Record.{Record}
 use Rattle.record.specs.declared.Recorded.the-variants.{Given}
-use Rattle.timekeeping.specs.Times.{usableIn, follows}
-use Rattle.locking.specs.Locks.{locked}
+use Rattle.timekeeping.specs.Times.{noTime, usableIn, follows}
+use Rattle.locking.specs.declared.Lock.{Lock}
+use Rattle.locking.specs.Locks.{locked, lockOf}
+use Rattle.locking.specs.Modes.{isGood, judgedBy}
 use Rattle.receiver.specs.declared.State.{State}
-use Rattle.receiver.specs.States.{freshOf}
+use Rattle.receiver.specs.States.{stateOf, lockIn, freshOf}
 use Rattle.receiver.specs.Steps.{stepOf}
 use Rattle.receiver.specs.Runs.{runOf}
 
@@ -43,19 +47,64 @@ afterFrom s (b ∷ bs) = afterFrom (stepOf s b .next) bs
 abbrev pub after : List ℕ → State
 after history = afterFrom freshOf history
 
+-- a state in which nothing waits
+abbrev pub nothingWaits : Lock → State
+nothingWaits l = stateOf l 0 (zeros 50)
+
+-- the state after the first n bits of a history
+abbrev pub afterFirst : ℕ → List ℕ → State
+afterFirst n history = after (take n history)
+
 -- the fifty bits that end after the first n
 abbrev pub windowTo : ℕ → List ℕ → List ℕ
 windowTo n history = take 50 (drop (n - 50) history)
 
--- the fifty bits that end after the first n are a usable time block with the record r
-pub record TimeBlock (history : List ℕ) (n : ℕ) (r : Record) : Type 0 where
+-- ---- blocks in a history
+
+-- fifty bits end after the first n, and reading them gives what is asked
+pub record BlockTo (asked : Read → Type 0) (history : List ℕ) (n : ℕ) : Type 0 where
   pub from : 50 ≤ n
   pub to : n ≤ length history
-  pub reads : usableIn (readOf (windowTo n history)) ≡ Given r
+  pub reads : asked (readOf (windowTo n history))
+
+-- a good block
+abbrev pub GoodBlock : List ℕ → ℕ → Type 0
+GoodBlock history n = BlockTo (λ w. isGood w ≡ true) history n
+
+-- a usable time block with the record r
+abbrev pub TimeBlock : List ℕ → ℕ → Record → Type 0
+TimeBlock history n r = BlockTo (λ w. usableIn w ≡ Given r) history n
+
+-- the block that ends after the first n bits was judged in its place: the lock after it is what its window makes of the lock
+-- before it, and all fifty bits are used up
+abbrev pub JudgedInPlace : List ℕ → ℕ → Type 0
+JudgedInPlace history n =
+    afterFirst n history ≡ nothingWaits (judgedBy (lockIn (afterFirst (n - 50) history)) (readOf (windowTo n history)) .lock)
+
+-- ---- the lock
 
 -- locked after the first n bits and after every bit since
 abbrev pub LockedSince : List ℕ → ℕ → Type 0
-LockedSince history n = (m : ℕ) → n ≤ m → m ≤ length history → after (take m history) .mode ≡ locked
+LockedSince history n = (m : ℕ) → n ≤ m → m ≤ length history → afterFirst m history .mode ≡ locked
+
+-- an earned lock: three good blocks one after the other, the last ending after n bits. Lock came with the last of these bits,
+-- with no run of bad blocks and no time, and was not lost since. The history goes on with whole blocks, each judged in its
+-- place, and then with the bits that wait, which left the lock as it was
+pub record EarnedLock (history : List ℕ) (s : State) : Type 0 where
+  pub n : ℕ
+  pub first : GoodBlock history (n - 100)
+  pub second : GoodBlock history (n - 50)
+  pub third : GoodBlock history n
+  pub before : afterFirst (n - 1) history .mode ≡ locked → ⊥
+  pub came : afterFirst n history ≡ nothingWaits (lockOf locked 0 0 noTime)
+  pub unbroken : LockedSince history n
+  pub blocks : ℕ
+  pub judged : (k : ℕ) → 0 < k → k ≤ blocks → JudgedInPlace history (n + 50 * k)
+  pub whole : length history ≡ n + 50 * blocks + s .waiting
+  pub room : s .waiting < 50
+  pub kept : lockIn s ≡ lockIn (afterFirst (n + 50 * blocks) history)
+
+-- ---- the time
 
 -- the record that s holds is that of the block that ended after n bits, and its age is the number of whole blocks since
 pub record HeldFrom (history : List ℕ) (s : State) (n : ℕ) : Type 0 where
