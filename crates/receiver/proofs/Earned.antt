@@ -1,6 +1,6 @@
 -- Confirmed is earned: each step keeps, begins or ends what in the history the held time comes from.
 -- Assumes nothing.
-use Prim.Native.Nat.{ℕ, _+_, _*_, _≤_, _<_}
+use Prim.Native.Nat.{ℕ, _+_, _-_, _*_, _≤_, _<_}
 use native.Mathlib.Omega.{arith}
 use mathlib.Core.Path.{_≡_, refl, sym, ap, _∙_}
 use mathlib.Core.Bool.{true, _&&_, and-eq-true-iff}
@@ -8,7 +8,6 @@ use mathlib.Core.List.{List, []}
 use borrow.Author.Tests.{eqb-true, eqb-false}
 use lib.Dec.{eqb, leb}
 use lib.ListN.{length}
-use lib.Seq.{take-all}
 use Rattle.block.specs.Read.{readOf}
 use Rattle.record.specs.declared.Record.{Record}
 use Rattle.record.specs.declared.Recorded.{Recorded}
@@ -17,17 +16,19 @@ use Rattle.timekeeping.specs.declared.Time.{Time}
 use Rattle.timekeeping.specs.Times.{none, candidate, confirmed, timeOf, noTime, usableIn, follows, renewedBy, agedBy, offeredTo}
 use Rattle.timekeeping.proofs.Choices.{cond-elim}
 use Rattle.locking.specs.declared.Judged.{Judged}
+use Rattle.locking.specs.declared.Lock.{Lock}
 use Rattle.locking.specs.Locks.{locked, lockOf}
 use Rattle.locking.specs.Modes.{heldOn}
-use Rattle.locking.proofs.Choices.{held-elim, unlocked-elim}
+use Rattle.locking.proofs.Choices.{held-elim}
 use Rattle.receiver.specs.declared.State.{State}
 use Rattle.receiver.specs.States.{lockIn, freshOf}
 use Rattle.receiver.specs.Steps.{Step, stepOf}
-use Rattle.receiver.specs.History.{ranAll, fedAll, after, nothingWaits, TimeBlock, HeldFrom, Held, Earned}
+use Rattle.receiver.specs.History.{ranAll, fedAll, after, nothingWaits, TimeBlock, LockedSince, HeldFrom, Held, Earned}
 use Rattle.receiver.proofs.Choices.{filled, judges, step-elim}
-use Rattle.receiver.proofs.EachMode.{mode-of}
+use Rattle.receiver.proofs.EachMode.{modes-elim, mode-of}
 use Rattle.receiver.proofs.WholeHistory.{runs-after}
 use Rattle.receiver.proofs.EndOfHistory.{_▹_, length-more, block-more, locked-now, locked-more, Waiting, block-now, each-state}
+use Rattle.receiver.proofs.EarnedLock.{locked-since}
 
 -- what a state's time comes from, where it holds one
 record Evidence (l : List ℕ) (s : State) : Type 0 where
@@ -72,9 +73,9 @@ module _ (l : List ℕ) (b : ℕ) (s : State) (v : Evidence l s) where
     kept : Evidence (l ▹ b) next
     kept = record { held = held-more; earned = earned-more }
 
-  -- ---- a block that ends now is offered to the time
+  -- ---- a block that began when locked and ends now is offered to the time
 
-  module _ (bad : ℕ) (full : s .waiting ≡ 49) (now : after (l ▹ b) .mode ≡ locked) where
+  module _ (bad : ℕ) (full : s .waiting ≡ 49) (since : LockedSince l (length l - s .waiting)) (now : after (l ▹ b) .mode ≡ locked) where
     abbrev Offered : Time → Type 0
     Offered t = Evidence (l ▹ b) (lockedWith bad t)
 
@@ -99,8 +100,9 @@ module _ (l : List ℕ) (b : ℕ) (s : State) (v : Evidence l s) where
 
       begun : Offered (timeOf k r 0)
       begun =
+          let start : length (l ▹ b) - 50 ≡ length l - s .waiting = omega (arith, length-more l b) in
           record {
-            held = λ _. record { n = length (l ▹ b); from = from-now refl; unbroken = λ m from to. rw (take-all m (l ▹ b) from) now };
+            held = λ _. record { n = length (l ▹ b); from = from-now refl; unbroken = rw start (locked-more l b since now) };
             earned = earned-now;
           }
 
@@ -138,18 +140,20 @@ module _ (l : List ℕ) (b : ℕ) (s : State) (p : Waiting l s) (v : Evidence l 
   abbrev Judges : Judged → Type 0
   Judges j = Evident (judges (filled s b) j)
 
-  held-evident : 49 ≤ s .waiting → Judges (heldOn (s .bad) (lockIn s .time) (readOf (filled s b)))
-  held-evident h =
+  held-evident : 49 ≤ s .waiting → LockedSince l (length l - s .waiting) → Judges (heldOn (s .bad) (lockIn s .time) (readOf (filled s b)))
+  held-evident h since =
       let full : s .waiting ≡ 49 = omega arith in
       let blocks : (r : Record) → usableIn (readOf (filled s b)) ≡ Given r → TimeBlock (l ▹ b) (length (l ▹ b)) r = λ r. block-now l b s p h in
-      held-elim Judges (s .bad) _ (readOf (filled s b)) (λ e. offered l b s v 0 full (mode-of e) _ blocks) (λ _. no-evidence _ _ refl)
-      (λ _ e. offered l b s v (s .bad + 1) full (mode-of e) _ blocks)
+      held-elim Judges (s .bad) _ (readOf (filled s b)) (λ e. offered l b s v 0 full since (mode-of e) _ blocks) (λ _. no-evidence _ _ refl)
+      (λ _ e. offered l b s v (s .bad + 1) full since (mode-of e) _ blocks)
 
   evident : Evident (stepOf s b)
   evident =
       step-elim Evident s b (λ few e. kept l b s v _ refl refl (omega arith) (omega arith) (λ h. mode-of e ∙ sym (mode-of here) ∙ held-locked-now l s (v .held h)))
       (λ full.
-      unlocked-elim Judges (lockIn s) (readOf (filled s b)) (λ j e _. no-evidence _ _ e) (held-evident full))
+      modes-elim Judges (lockIn s) (readOf (filled s b)) (λ j f _. no-evidence _ _ (ap (λ (k : Lock). k .time .kind) f)) (λ _ _ _. no-evidence _ _ refl)
+      (λ _ _ _. no-evidence _ _ refl) (λ _ _ _ _. no-evidence _ _ refl)
+      (λ h t. held-evident full (rw here at (locked-since l (λ m. h (sym (mode-of here) ∙ m)) (λ m. t (sym (mode-of here) ∙ m))))))
 
 -- ---- every history
 
@@ -157,7 +161,7 @@ evidence : (l : List ℕ) → Evidence l (after l)
 unfolding freshOf
 evidence = each-state Evidence evident (no-evidence [] _ refl)
 
--- a held time comes from a usable time block, as many whole blocks ago as its age, and lock was not lost since
+-- a held time comes from a usable time block, as many whole blocks ago as its age, and lock was not lost since that block began
 pub held-is-read : (l : List ℕ) → (after l .time ≡ none → ⊥) → Held l (after l)
 held-is-read l = evidence l .held
 

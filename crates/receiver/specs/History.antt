@@ -112,18 +112,19 @@ pub record HeldFrom (history : List ℕ) (s : State) (n : ℕ) : Type 0 where
   pub aged : length history ≡ n + 50 * s .age + s .waiting
   pub room : s .waiting < 50
 
--- a held time: the block of its record ended after n bits, and lock was not lost since
+-- a held time: the block of its record ended after n bits; lock was there when that block began, and was not lost since
 pub record Held (history : List ℕ) (s : State) : Type 0 where
   pub n : ℕ
   pub from : HeldFrom history s n
-  pub unbroken : LockedSince history n
+  pub unbroken : LockedSince history (n - 50)
 
 -- an earned time: a usable time block ended after n bits, and the block of the held record exactly 1,500 bits later; the held
--- record is the next minute of the earlier one, the offset aside; and lock was not lost since the earlier block ended
+-- record is the next minute of the earlier one, the offset aside; and lock was there when the earlier block began, and was not
+-- lost since
 pub record Earned (history : List ℕ) (s : State) : Type 0 where
   pub n : ℕ
   pub earlier : Record
   pub block : TimeBlock history n earlier
   pub from : HeldFrom history s (n + 1500)
   pub next : follows earlier (s .held) ≡ true
-  pub unbroken : LockedSince history n
+  pub unbroken : LockedSince history (n - 50)
