@@ -2,12 +2,11 @@
 -- bit by bit to a locked receiver, which holds the record; a minute later it is confirmed, and the date is one minute later
 -- (01, "The calendar" and "Hunting, trying, locked").
 -- Assumes nothing.
-use Prim.Native.Nat.{ℕ, _+_, _^_, _≤_, _<_}
+use Prim.Native.Nat.{ℕ, _+_, _≤_, _<_}
 use mathlib.Core.Path.{_≡_}
 use mathlib.Core.Bool.{true, false}
 use mathlib.Core.List.{List, [], _∷_, _++_}
 use lib.ListN.{length}
-use Rattle.block.specs.Bits.{zeros}
 use Rattle.block.specs.Block.{blockOf}
 use Rattle.block.specs.Read.{readOf}
 use Rattle.detection.specs.Slips.{Message, sent}
@@ -25,7 +24,7 @@ use Rattle.timekeeping.specs.Proper.{isGiven}
 use Rattle.timekeeping.specs.Times.{none, candidate, confirmed, timeOf, usableIn}
 use Rattle.locking.specs.Locks.{locked, lockOf}
 use Rattle.receiver.specs.declared.State.{State}
-use Rattle.receiver.specs.States.{stateOf, properOf}
+use Rattle.receiver.specs.States.{nothingWaits, properOf}
 use Rattle.receiver.specs.Runs.{ended, runOf}
 
 -- ---- what is sent
@@ -55,7 +54,7 @@ pub record Idle (s : State) : Type 0 where
 
 -- a locked receiver with nothing waiting and no bad blocks, that holds a record at an age in blocks, as a candidate or confirmed
 abbrev pub holding : ℕ → Record → ℕ → State
-holding kind r age = stateOf (lockOf locked 0 0 (timeOf kind r age)) 0 (zeros 50)
+holding kind r age = nothingWaits (lockOf locked 0 0 (timeOf kind r age))
 
 -- ---- the statement
 

@@ -1,12 +1,13 @@
 -- What is shown of each answer of a judgement holds of the judgement.
 -- Assumes nothing.
-use Prim.Native.Nat.{ℕ, _+_, _<_}
+use Prim.Native.Nat.{ℕ, _+_, _≤_, _<_}
 use mathlib.Core.Path.{_≡_, refl}
-use borrow.Author.Tests.{leb-false}
+use mathlib.Core.Bool.{true}
+use borrow.Author.Tests.{eqb-true, eqb-false, leb-true, leb-false}
 use lib.Dec.{eqb, leb}
 use Rattle.block.specs.declared.Read.{Read}
 use Rattle.timekeeping.specs.declared.Time.{Time}
-use Rattle.timekeeping.specs.Times.{none, usableIn, offeredTo}
+use Rattle.timekeeping.specs.Times.{noTime, usableIn, offeredTo}
 use Rattle.timekeeping.proofs.Choices.{cond-elim}
 use Rattle.locking.specs.declared.Judged.{Judged}
 use Rattle.locking.specs.declared.Lock.{Lock}
@@ -30,18 +31,23 @@ held-elim P bad t w good lost kept =
     cond-elim P (isGood w) (λ _. good)
     (λ _. cond-elim (λ (l : Lock). P (badBlock l)) (leb 4 (bad + 1)) (λ _. lost) (λ e. kept (leb-false 4 (bad + 1) e)))
 
--- a state that was not locked holds no time after a window
-pub unlocked-elim : (P : Judged → Type 0) (l : Lock) (w : Read) → ((j : Judged) → j .lock .time .kind ≡ none → P j) → P (heldOn (l .bad) (l .time) w) → P (judgedBy l w)
+-- a judged window leaves a fresh lock, or it is one good block more, the third of which locks, or the lock was there already
+pub modes-elim : (P : Judged → Type 0) (l : Lock) (w : Read) → ((j : Judged) → j .lock ≡ freshLock → P j)
+    → (l .mode ≡ hunting → isGood w ≡ true → P (goodBlock (lockOf trying 1 0 noTime)))
+    → (l .mode ≡ trying → isGood w ≡ true → P (goodBlock (lockOf trying (l .good + 1) 0 noTime)))
+    → (l .mode ≡ trying → isGood w ≡ true → 3 ≤ l .good + 1 → P (goodBlock (lockOf locked 0 0 noTime)))
+    → ((l .mode ≡ hunting → ⊥) → (l .mode ≡ trying → ⊥) → P (heldOn (l .bad) (l .time) w)) → P (judgedBy l w)
 unfolding judgedBy hunted tried
-unlocked-elim P l w unlocked held =
-    cond-elim P (eqb (l .mode) hunting) (λ _. cond-elim P (isGood w) (λ _. unlocked _ refl) (λ _. unlocked _ refl))
-    (λ _.
+modes-elim P l w fresh first more third held =
+    cond-elim P (eqb (l .mode) hunting) (λ h. cond-elim P (isGood w) (first (eqb-true (l .mode) hunting h)) (λ _. fresh _ refl))
+    (λ h.
     cond-elim P (eqb (l .mode) trying)
-    (λ _.
+    (λ t.
+    let m : l .mode ≡ trying = eqb-true (l .mode) trying t in
     cond-elim P (isGood w)
-    (λ _. cond-elim (λ (l : Lock). P (goodBlock l)) (leb 3 (l .good + 1)) (λ _. unlocked _ refl) (λ _. unlocked _ refl))
-    (λ _. unlocked _ refl))
-    (λ _. held))
+    (λ g. cond-elim (λ (k : Lock). P (goodBlock k)) (leb 3 (l .good + 1)) (λ n. third m g (leb-true 3 (l .good + 1) n)) (λ _. more m g))
+    (λ _. fresh _ refl))
+    (λ t. held (eqb-false (l .mode) hunting h) (eqb-false (l .mode) trying t)))
 
 -- a window of a locked state
 pub held-judged : (l : Lock) (w : Read) → l .mode ≡ locked → judgedBy l w ≡ heldOn (l .bad) (l .time) w

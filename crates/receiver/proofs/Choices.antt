@@ -1,6 +1,7 @@
 -- What is shown of a bit that waits and of a bit that fills the window holds of the step.
 -- Assumes nothing.
 use Prim.Native.Nat.{ℕ, _+_, _≤_, _<_}
+use mathlib.Core.Path.{_≡_, ap}
 use mathlib.Core.List.{List}
 use borrow.Author.Tests.{ltb-true, ltb-false}
 use lib.Dec.{ltb}
@@ -30,3 +31,6 @@ pub step-elim : (P : Step → Type 0) (s : State) (b : ℕ) → (s .waiting < 49
     → (49 ≤ s .waiting → P (judges (filled s b) (judgedBy (lockIn s) (readOf (filled s b))))) → P (stepOf s b)
 unfolding stepOf judgedStep
 step-elim P s b waiting full = cond-elim P (ltb (s .waiting) 49) (λ e. waiting (ltb-true (s .waiting) 49 e)) (λ e. full (ltb-false (s .waiting) 49 e))
+
+abbrev pub mode-of : {s t : State} → s ≡ t → s .mode ≡ t .mode
+mode-of e = ap (λ (s : State). s .mode) e

@@ -19,13 +19,12 @@ use Rattle.locking.specs.declared.Judged.{Judged}
 use Rattle.locking.specs.declared.Lock.{Lock}
 use Rattle.locking.specs.Locks.{locked, lockOf}
 use Rattle.locking.specs.Modes.{heldOn}
-use Rattle.locking.proofs.Choices.{held-elim}
+use Rattle.locking.proofs.Choices.{held-elim, modes-elim}
 use Rattle.receiver.specs.declared.State.{State}
-use Rattle.receiver.specs.States.{lockIn, freshOf}
+use Rattle.receiver.specs.States.{lockIn, freshOf, nothingWaits}
 use Rattle.receiver.specs.Steps.{Step, stepOf}
-use Rattle.receiver.specs.History.{ranAll, fedAll, after, nothingWaits, TimeBlock, LockedSince, HeldFrom, Held, Earned}
-use Rattle.receiver.proofs.Choices.{filled, judges, step-elim}
-use Rattle.receiver.proofs.EachMode.{modes-elim, mode-of}
+use Rattle.receiver.specs.History.{ranAll, fedAll, after, TimeBlock, LockedSince, HeldFrom, Held, Earned}
+use Rattle.receiver.proofs.Choices.{filled, judges, step-elim, mode-of}
 use Rattle.receiver.proofs.WholeHistory.{runs-after}
 use Rattle.receiver.proofs.EndOfHistory.{_▹_, length-more, block-more, locked-now, locked-more, Waiting, block-now, each-state}
 use Rattle.receiver.proofs.EarnedLock.{locked-since}

@@ -15,13 +15,12 @@ use Rattle.locking.specs.declared.Judged.{Judged}
 use Rattle.locking.specs.declared.Lock.{Lock}
 use Rattle.locking.specs.Locks.{hunting, trying, locked, lockOf}
 use Rattle.locking.specs.Modes.{isGood, judgedBy}
-use Rattle.locking.proofs.Choices.{held-elim}
+use Rattle.locking.proofs.Choices.{held-elim, modes-elim}
 use Rattle.receiver.specs.declared.State.{State}
-use Rattle.receiver.specs.States.{stateOf, lockIn, freshOf}
+use Rattle.receiver.specs.States.{stateOf, lockIn, freshOf, nothingWaits}
 use Rattle.receiver.specs.Steps.{Step, stepOf}
-use Rattle.receiver.specs.History.{ranAll, fedAll, after, afterFirst, nothingWaits, GoodBlock, JudgedInPlace, LockedSince, EarnedLock}
-use Rattle.receiver.proofs.Choices.{filled, waits, judges, step-elim}
-use Rattle.receiver.proofs.EachMode.{modes-elim, mode-of}
+use Rattle.receiver.specs.History.{ranAll, fedAll, after, afterFirst, GoodBlock, JudgedInPlace, LockedSince, EarnedLock}
+use Rattle.receiver.proofs.Choices.{filled, waits, judges, step-elim, mode-of}
 use Rattle.receiver.proofs.WholeHistory.{runs-after}
 use Rattle.receiver.proofs.EndOfHistory.{_▹_, length-more, block-more, first-more, judged-more, locked-now, locked-more, Waiting, window-now, block-now, each-state}
 

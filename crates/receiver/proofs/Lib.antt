@@ -7,7 +7,6 @@ pub mod Together
 pub mod LostLock
 pub mod WholeHistory
 pub mod EndOfHistory
-pub mod EachMode
 pub mod EarnedLock
 pub mod Earned
 pub mod Confirms

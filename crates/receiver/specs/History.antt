@@ -7,17 +7,15 @@ use mathlib.Core.Bool.{true, cond}
 use mathlib.Core.List.{List, [], _∷_, _++_}
 use lib.Dec.{ltb}
 use lib.ListN.{length, take, drop}
-use Rattle.block.specs.Bits.{zeros}
 use Rattle.block.specs.Read.{readOf}
 use Rattle.block.specs.declared.Read.{Read}
 use Rattle.record.specs.declared.Record.{Record}
 use Rattle.record.specs.declared.Recorded.the-variants.{Given}
 use Rattle.timekeeping.specs.Times.{noTime, usableIn, follows}
-use Rattle.locking.specs.declared.Lock.{Lock}
 use Rattle.locking.specs.Locks.{locked, lockOf}
 use Rattle.locking.specs.Modes.{isGood, judgedBy}
 use Rattle.receiver.specs.declared.State.{State}
-use Rattle.receiver.specs.States.{stateOf, lockIn, freshOf}
+use Rattle.receiver.specs.States.{lockIn, nothingWaits, freshOf}
 use Rattle.receiver.specs.Steps.{stepOf}
 use Rattle.receiver.specs.Runs.{runOf}
 
@@ -46,10 +44,6 @@ afterFrom s (b ∷ bs) = afterFrom (stepOf s b .next) bs
 
 abbrev pub after : List ℕ → State
 after history = afterFrom freshOf history
-
--- a state in which nothing waits
-abbrev pub nothingWaits : Lock → State
-nothingWaits l = stateOf l 0 (zeros 50)
 
 -- the state after the first n bits of a history
 abbrev pub afterFirst : ℕ → List ℕ → State

@@ -28,9 +28,13 @@ stateOf l waiting bits =
 abbrev pub lockIn : State → Lock
 lockIn s = lockOf (s .mode) (s .good) (s .bad) (timeOf (s .time) (s .held) (s .age))
 
+-- a state in which nothing waits
+abbrev pub nothingWaits : Lock → State
+nothingWaits l = stateOf l 0 (zeros 50)
+
 -- a fresh state: hunting, nothing waiting, no time
 unfoldable pub freshOf : State
-freshOf = stateOf freshLock 0 (zeros 50)
+freshOf = nothingWaits freshLock
 
 -- ---- proper
 
