@@ -16,7 +16,11 @@ use Rattle.calendar.specs.NextMinute.{nextWeekday, nextDay, goOn, nextAfter, ne
 use Rattle.places.specs.Places.{Places}
 
 pub places : Places
-unfolding bitsOf valueFrom remainderFrom blockOf bodyOf block.readOf words.readOf fieldsOf offsetOf inRange kindInRange dayInRange timeInRange offsetInRange leapYear daysOfYears startDay yearFrom sumOf monthFrom dayOfYear dayInYear usableOf dateIn dateAfter dateOf dateInRange recordAt recordOf nextWeekday nextDay goOn nextAfter nextMinuteOf
+unfolding bitsOf valueFrom remainderFrom blockOf bodyOf block.readOf
+    words.readOf fieldsOf offsetOf inRange kindInRange dayInRange timeInRange offsetInRange
+    leapYear daysOfYears startDay yearFrom sumOf monthFrom dayOfYear dayInYear
+    usableOf dateIn dateAfter dateOf dateInRange recordAt recordOf
+    nextWeekday nextDay goOn nextAfter nextMinuteOf
 places =
     record {
       empty = (refl, written-good 0 0, refl);

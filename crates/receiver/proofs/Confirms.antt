@@ -28,6 +28,14 @@ fillers (suc n) = blockOf 0 2147483648 ++ fillers n
 abbrev minuteApart : ℕ → List ℕ
 minuteApart n = fillers 3 ++ (blockOf 0 1276510208 ++ (fillers n ++ blockOf 0 1276510272))
 
-pub confirms : (after (minuteApart 28) .time ≡ candidate) × (after (minuteApart 29) .time ≡ confirmed) × (after (minuteApart 30) .time ≡ candidate)
-unfolding afterFrom freshOf stepOf judgedStep judgedBy hunted tried heldOn offeredTo renewedBy agedBy usableIn follows sameMinute readOf valueFrom remainderFrom blockOf offsetInRange timeInRange kindInRange dayInRange inRange offsetOf fieldsOf words.readOf dayOfYear dayInYear usableOf goOn nextAfter nextMinuteOf
+pub confirms :
+    (after (minuteApart 28) .time ≡ candidate)
+    × (after (minuteApart 29) .time ≡ confirmed)
+    × (after (minuteApart 30) .time ≡ candidate)
+unfolding valueFrom remainderFrom blockOf readOf
+    offsetOf fieldsOf offsetInRange timeInRange kindInRange dayInRange inRange words.readOf
+    dayOfYear dayInYear usableOf goOn nextAfter nextMinuteOf
+    usableIn sameMinute follows renewedBy agedBy offeredTo
+    hunted tried heldOn judgedBy
+    freshOf judgedStep stepOf afterFrom
 confirms = (refl, refl, refl)
