@@ -7,6 +7,8 @@ use mathlib.Core.List.{List, [], _∷_}
 use lib.Dec.{ltb}
 use lib.ListN.{length}
 use Rattle.block.specs.Read.{readOf}
+use Rattle.refusal.specs.Numbers.{numberOf}
+use Rattle.refusal.specs.declared.Refusal.the-variants.{RunTooLong, Improper}
 use Rattle.timekeeping.proofs.Choices.{cond-elim}
 use Rattle.locking.specs.declared.Judged.{Judged}
 use Rattle.locking.proofs.Choices.{judged-elim}
@@ -46,10 +48,11 @@ from-balance (b ∷ bs) good bad passed s h =
     (λ e. rw e (omega arith))
 
 -- unless the run is refused with 9 or 10, what waited and what was fed balance with what it counts
-pub balance : (s : State) (bs : List ℕ) → (runOf s bs .counts .refusal ≡ 9 → ⊥) → (runOf s bs .counts .refusal ≡ 10 → ⊥)
+pub balance : (s : State) (bs : List ℕ) → (runOf s bs .counts .refusal ≡ numberOf RunTooLong → ⊥) → (runOf s bs .counts .refusal ≡ numberOf Improper → ⊥)
     → Balanced (s .waiting + length (bitsBefore bs)) (runOf s bs)
 unfolding runOf
 balance s bs =
-    let P : Ran → Type 0 = λ r. (r .counts .refusal ≡ 9 → ⊥) → (r .counts .refusal ≡ 10 → ⊥) → Balanced (s .waiting + length (bitsBefore bs)) r in
+    let P : Ran → Type 0 = λ r. (r .counts .refusal ≡ numberOf RunTooLong → ⊥) → (r .counts .refusal ≡ numberOf Improper → ⊥)
+    → Balanced (s .waiting + length (bitsBefore bs)) r in
     cond-elim P (ltb 65536 (length bs)) (λ _ long _. absurd (long refl))
     (λ _. cond-elim P (properOf s) (λ e _ _. omega (arith, from-balance bs 0 0 0 s (room s e))) (λ _ _ improper. absurd (improper refl)))

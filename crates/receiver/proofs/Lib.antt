@@ -11,4 +11,5 @@ pub mod EarnedLock
 pub mod Earned
 pub mod Confirms
 pub mod Running
+pub mod Changes
 pub mod Determined

@@ -10,6 +10,8 @@ use borrow.Author.Tests.{lt-ltb, le-ltb}
 use lib.Dec.{ltb}
 use lib.ListN.{length, length-append}
 use Rattle.block.specs.Bits.{Bits}
+use Rattle.refusal.specs.Numbers.{numberOf}
+use Rattle.refusal.specs.declared.Refusal.the-variants.{NotABit}
 use Rattle.timekeeping.proofs.Choices.{cond-elim}
 use Rattle.receiver.specs.declared.Ran.{Ran}
 use Rattle.receiver.specs.declared.State.{State}
@@ -45,7 +47,7 @@ from-counted (x ∷ bs) g b p good bad passed s =
 -- ---- two strings
 
 -- a run of bits is not refused, and its count of those waiting is the state's
-from-bits : (xs : List ℕ) (good bad passed : ℕ) (s : State) → Bits xs
+pub from-bits : (xs : List ℕ) (good bad passed : ℕ) (s : State) → Bits xs
     → (runFrom xs good bad passed s .counts .refusal ≡ 0) × (runFrom xs good bad passed s .counts .waiting ≡ runFrom xs good bad passed s .state .waiting)
 unfolding runFrom
 from-bits [] good bad passed s h = (refl, refl)
@@ -68,9 +70,9 @@ pub run-is : (s : State) (bs : List ℕ) → length bs ≤ 65536 → properOf s 
 unfolding runOf
 run-is s bs h e = rw (le-ltb 65536 (length bs) h, e)
 
--- a run with its refusal changed to 1
+-- a run with its refusal changed to that of a bit that is none
 abbrev pub stopped : Ran → Ran
-stopped r = record { counts = countsOf 1 (r .counts .good) (r .counts .bad) (r .counts .passed) (r .counts .waiting); state = r .state }
+stopped r = record { counts = countsOf (numberOf NotABit) (r .counts .good) (r .counts .bad) (r .counts .passed) (r .counts .waiting); state = r .state }
 
 module _ (s : State) (xs ys : List ℕ) (p : Proper s) (h : Bits xs) (limit : length (xs ++ ys) ≤ 65536) where
   first-is : runOf s xs ≡ runFrom xs 0 0 0 s

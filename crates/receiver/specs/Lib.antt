@@ -1,5 +1,6 @@
--- In reading order: the state, one bit, a run, and what was fed, looked back on.
+-- In reading order: the state, one bit, a run, what was fed, looked back on, and a run that ends where lock changes.
 pub mod States
 pub mod Steps
 pub mod Runs
 pub mod History
+pub mod Changes

@@ -2,12 +2,15 @@
 mod states;
 mod windows;
 
+ghost use mathlib.Core.Bool.{cond};
 ghost use mathlib.Core.Path.{_≡_};
 ghost use Prim.Native.Nat.{_<_, _≤_};
 ghost use lib.ListN.{length};
-ghost use Rattle.receiver.specs.Runs.{ended, refusedRun, runFrom, runOf, fedOf};
+ghost use Rattle.receiver.specs.Changes.{sameLock, upTo, withFed, refusedStretch, stretchFrom, stretchOf, runToChange};
+ghost use Rattle.receiver.specs.Runs.{ended, runOf, fedOf};
 ghost use Rattle.receiver.specs.States.{freshOf, stateOf};
 use record::Record;
+use refusal::Refusal;
 use states::is_proper;
 use states::lock_in;
 use states::state_of;
@@ -43,6 +46,12 @@ pub struct Ran {
     pub state: State,
 }
 
+// A run, and how many bits it fed.
+pub struct Stretch {
+    pub ran: Ran,
+    pub fed: usize,
+}
+
 // Hunting, with nothing waiting and no time.
 pub fn fresh() -> State
     ensures { λ s. ⌜ s ≡ freshOf ⌝ }
@@ -50,8 +59,8 @@ pub fn fresh() -> State
     state_of(locking::fresh_lock(), 0, [0u8; 50])
 }
 
-fn counted(refusal: u8, good: u32, bad: u32, passed: u32, state: State) -> Ran
-    ensures { λ r. ⌜ r ≡ ended refusal good bad passed state ⌝ }
+fn counted(refusal: u8, good: u32, bad: u32, passed: u32, fed: usize, state: State) -> Stretch
+    ensures { λ r. ⌜ r ≡ withFed (ended refusal good bad passed state) fed ⌝ }
 {
     let counts = Counts {
         refusal,
@@ -60,26 +69,44 @@ fn counted(refusal: u8, good: u32, bad: u32, passed: u32, state: State) -> Ran
         passed,
         waiting: state.waiting as u32,
     };
-    Ran { counts, state }
+    let ran = Ran { counts, state };
+    Stretch { ran, fed }
 }
 
-fn refused(refusal: u8, state: State) -> Ran
-    ensures { λ r. ⌜ r ≡ refusedRun refusal state ⌝ }
+fn refused(why: Refusal, state: State) -> Stretch
+    ensures { λ r. ⌜ r ≡ refusedStretch why state ⌝ }
 {
     let counts = Counts {
-        refusal,
+        refusal: refusal::number(why),
         good: 0,
         bad: 0,
         passed: 0,
         waiting: 0,
     };
-    Ran { counts, state }
+    let ran = Ran { counts, state };
+    Stretch { ran, fed: 0 }
+}
+
+// Where a run ends that would have ended at `end`: here, if it is to stop where lock changes and it did, by the modes.
+fn end_of(stop: bool, before: u8, after: u8, here: usize, end: usize) -> usize
+    ensures { λ e. ⌜ e ≡ cond stop (cond (sameLock before after) end here) end ⌝ }
+{
+    if stop {
+        if before == 2 {
+            if after != 2 {
+                return here;
+            }
+        } else if after == 2 {
+            return here;
+        }
+    }
+    end
 }
 
 // The bits one after the other. The window stays where it is; only its lock and its counts change hands.
-fn feed_all(state: State, bits: &[u8]) -> Ran
+fn feed_all(state: State, bits: &[u8], stop: bool) -> Stretch
     requires { ⌜ (state .waiting < 50) × (length (now bits) ≤ 65536) ⌝ }
-    ensures { λ r. ⌜ r ≡ runFrom (now (bits .entry)) 0 0 0 state ⌝ }
+    ensures { λ r. ⌜ r ≡ stretchFrom (upTo stop state (now (bits .entry))) 0 0 0 0 state ⌝ }
 {
     let mut window = state.bits;
     let mut waiting = state.waiting as usize;
@@ -87,11 +114,14 @@ fn feed_all(state: State, bits: &[u8]) -> Ran
     let mut good: u32 = 0;
     let mut bad: u32 = 0;
     let mut passed: u32 = 0;
+    let mut end = bits.len();
     let mut i: usize = 0;
-    while i < bits.len() {
+    while i < end {
         let bit = bits[i];
         if 1 < bit {
-            return counted(1, good, bad, passed, state_of(lock, waiting as u8, window));
+            let here = state_of(lock, waiting as u8, window);
+            let why = refusal::number(Refusal::NotABit);
+            return counted(why, good, bad, passed, i, here);
         }
         window[waiting] = bit;
         waiting += 1;
@@ -101,26 +131,44 @@ fn feed_all(state: State, bits: &[u8]) -> Ran
             bad += judged.bad as u32;
             passed += judged.passed as u32;
             let next = judged.lock;
+            end = end_of(stop, lock.mode, next.mode, i + 1, end);
             lock = next;
             waiting = settle(&mut window, judged.passed);
         }
         i += 1;
     }
-    counted(0, good, bad, passed, state_of(lock, waiting as u8, window))
+    let here = state_of(lock, waiting as u8, window);
+    counted(0, good, bad, passed, i, here)
+}
+
+// A run of all the bits or, where it is to stop there, of those up to the one with which lock changes.
+fn limited(state: State, bits: &[u8], stop: bool) -> Stretch
+    ensures { λ r. ⌜ r ≡ stretchOf stop state (now (bits .entry)) ⌝ }
+{
+    let long = 65536 < bits.len();
+    let improper = !is_proper(state);
+    if long {
+        return refused(Refusal::RunTooLong, state);
+    }
+    if improper {
+        return refused(Refusal::Improper, state);
+    }
+    feed_all(state, bits, stop)
 }
 
 // A run of bits, by value.
 pub fn run(state: State, bits: &[u8]) -> Ran
     ensures { λ r. ⌜ r ≡ runOf state (now (bits .entry)) ⌝ }
 {
-    if 65536 < bits.len() {
-        return refused(9, state);
-    }
-    if is_proper(state) {
-        feed_all(state, bits)
-    } else {
-        refused(10, state)
-    }
+    let all = limited(state, bits, false);
+    all.ran
+}
+
+// A run that ends with the bit with which lock comes or goes, or with the last bit.
+pub fn run_to_change(state: State, bits: &[u8]) -> Stretch
+    ensures { λ r. ⌜ r ≡ runToChange state (now (bits .entry)) ⌝ }
+{
+    limited(state, bits, true)
 }
 
 // One bit, by value: the run of that bit alone.

@@ -1,32 +1,35 @@
--- `feed_all` meets its contract. The loop's invariant: what is left from here, with what is counted and held, gives the whole run.
+-- `feed_all` meets its contract. The loop's invariant: what is left from here, with what is fed, counted and held, gives the whole run.
 -- Assumes nothing.
 use borrow.Author.Needs.{needs}
+use mathlib.Core.Bool.{Bool}
 use mathlib.Core.List.{List}
 use mathlib.Core.Logic.{⊎-elim}
-use mathlib.Core.Path.{_≡_, refl, sym, _∙_}
+use mathlib.Core.Path.{_≡_, sym, _∙_}
 use Prim.Native.Nat.{ℕ, _≤_, _<_, _-_}
 use native.Mathlib.Omega.{arith}
-use lib.ListN.{length, getD, drop, set, length-set}
+use lib.ListN.{length, getD, set, length-set}
+use lib.Seq.{take-length}
 use Rattle.locking.specs.declared.Lock.{Lock}
 use Rattle.receiver.specs.declared.State.{State}
 use Rattle.receiver.specs.States.{stateOf, lockIn}
-use Rattle.receiver.specs.Runs.{runFrom}
+use Rattle.receiver.specs.Changes.{sameLock}
 use Rattle.receiver.proofs.Small.{judged-small, after-places}
-use Rattle.receiver.proofs.Running.{run-done, run-stops, run-waits, run-judges}
+use Rattle.receiver.proofs.Running.{left, left-none, left-some, left-of, left-bounds, goesOn, on-done, on-stops, on-waits, on-judges}
 use Rattle.receiver.proofs.feed_all.Statement.{statement}
 use Rattle.receiver.proofs.feed_all.Tie as tie
 
 -- the state taken apart and put together
-entered : (bits : List ℕ) (s : State) (l : Lock) → l ≡ lockIn s → runFrom bits 0 0 0 (stateOf l (s .waiting) (s .bits)) ≡ runFrom bits 0 0 0 s
-entered bits s l e = rw e
+entered : (stop : Bool) (bits : List ℕ) (s : State) (l : Lock) → l ≡ lockIn s
+    → goesOn stop bits 0 0 0 0 (stateOf l (s .waiting) (s .bits)) ≡ goesOn stop bits 0 0 0 0 s
+entered stop bits s l e = rw e
 
 abbrev Inv-loop : tie.InvT-loop
-Inv-loop bits window₀ waiting₀ lock₀ good₀ bad₀ passed₀ i₀ window waiting lock good bad passed i =
-    (i ≤ length bits) × (waiting < 50) × (length window ≡ 50) × (good ≤ i) × (bad ≤ i) × (passed ≤ i)
-    × (runFrom (drop i bits) good bad passed (stateOf lock waiting window) ≡ runFrom bits 0 0 0 (stateOf lock₀ waiting₀ window₀))
+Inv-loop bits stop window₀ waiting₀ lock₀ good₀ bad₀ passed₀ end₀ i₀ window waiting lock good bad passed end i =
+    (i ≤ end) × (end ≤ length bits) × (waiting < 50) × (length window ≡ 50) × (good ≤ i) × (bad ≤ i) × (passed ≤ i)
+    × (goesOn stop (left bits i end) i good bad passed (stateOf lock waiting window) ≡ goesOn stop bits 0 0 0 0 (stateOf lock₀ waiting₀ window₀))
 
 abbrev μ-loop : tie.MeasureT-loop
-μ-loop bits window₀ waiting₀ lock₀ good₀ bad₀ passed₀ i₀ window waiting lock good bad passed i = length bits - i
+μ-loop bits stop window₀ waiting₀ lock₀ good₀ bad₀ passed₀ end₀ i₀ window waiting lock good bad passed end i = length bits - i
 
 cast-waiting : tie.Need-cast-waiting Inv-loop μ-loop
 cast-waiting c = search needs
@@ -35,10 +38,13 @@ lock-in-requires : tie.Need-lock-in-requires Inv-loop μ-loop
 lock-in-requires c κs = search needs
 
 loop-holds : tie.Need-loop-holds Inv-loop μ-loop
-loop-holds c = (omega arith, omega arith, search needs, omega arith, omega arith, omega arith, refl)
+loop-holds c = (omega arith, omega arith, omega arith, search needs, omega arith, omega arith, omega arith, rw take-length)
 
 shared-slice-read-bit : tie.Need-shared-slice-read-bit Inv-loop μ-loop
 shared-slice-read-bit c = omega arith
+
+number-requires : tie.Need-number-requires Inv-loop μ-loop
+number-requires c κs = search needs
 
 cast-state-of : tie.Need-cast-state-of Inv-loop μ-loop
 cast-state-of c = omega arith
@@ -51,11 +57,14 @@ counted-requires c κs = search needs
 
 returns : tie.Need-returns Inv-loop μ-loop
 returns c =
-    let at = c .before .before .before .before .before in
+    let at = c .before .before .before .before .before .before in
     let start = at .before .before .before .before .before in
     let bits = start .args .bits .now in
-    rw (c .counted .ensures, c .before .state-of .ensures)
-    (sym (run-stops bits (at .loop .i) _ _ _ (c .before .before .before .before .loop-test .taken) _ (c .before .before .if1 .taken)) ∙ at .loop .inv .6 ∙ entered bits (start .args .state) _ (at .before .lock-in .ensures))
+    let more = left-some bits (at .loop .i) (at .loop .end) (c .before .before .before .before .before .loop-test .taken) (at .loop .inv .1) in
+    let no-bit : 2 ≤ getD bits (at .loop .i) 0 = omega (arith, c .before .before .before .if1 .taken) in
+    rw (c .counted .ensures, c .before .number .ensures, c .before .before .state-of .ensures)
+    (sym (on-stops (start .args .stop) (at .loop .i) _ _ _ _ _ _ no-bit) ∙ rw more at (at .loop .inv .7)
+    ∙ entered (start .args .stop) bits (start .args .state) _ (at .before .lock-in .ensures))
 
 array-write-window : tie.Need-array-write-window Inv-loop μ-loop
 array-write-window c = omega arith
@@ -67,7 +76,7 @@ slice-aggregate-judge-window : tie.Need-slice-aggregate-judge-window Inv-loop μ
 slice-aggregate-judge-window c = search needs
 
 judge-window-requires : tie.Need-judge-window-requires Inv-loop μ-loop
-judge-window-requires c κs = rw length-set (c .before .before .before .before .before .loop .inv .2)
+judge-window-requires c κs = rw length-set (c .before .before .before .before .before .loop .inv .3)
 
 cast-good : tie.Need-cast-good Inv-loop μ-loop
 cast-good c = search needs
@@ -93,8 +102,16 @@ add-passed c =
     let at = c .before .before .before .before .before .before .before .before .before in
     omega (arith, judged-small (at .loop .window) _ _ _ (c .before .before .before .judge-window .ensures), at .loop .inv, at .before .before .before .before .before .pre)
 
+add-end-of : tie.Need-add-end-of Inv-loop μ-loop
+add-end-of c =
+    let at = c .before .before .before .before .before .before .before .before .before .before in
+    omega (arith, at .loop .inv, at .before .before .before .before .before .pre, c .before .before .before .before .before .before .before .before .before .loop-test .taken)
+
+end-of-requires : tie.Need-end-of-requires Inv-loop μ-loop
+end-of-requires c κs = search needs
+
 settle-requires : tie.Need-settle-requires Inv-loop μ-loop
-settle-requires c κs = rw length-set (c .before .before .before .before .before .before .before .before .before .before .before .loop .inv .2)
+settle-requires c κs = rw length-set (c .before .before .before .before .before .before .before .before .before .before .before .before .loop .inv .3)
 
 add-i : tie.Need-add-i Inv-loop μ-loop
 add-i c = omega arith
@@ -105,33 +122,40 @@ loop-less c = omega arith
 loop-again : tie.Need-loop-again Inv-loop μ-loop
 loop-again c =
     let at = c .before .before .before .before in
-    let bits = at .before .before .before .before .before .args .bits .now in
+    let start = at .before .before .before .before .before in
+    let bits = start .args .bits .now in
+    let stop = start .args .stop in
     let inv = at .loop .inv in
-    let more = c .before .before .before .loop-test .taken in
+    let taken = c .before .before .before .loop-test .taken in
+    let whole = rw (left-some bits (at .loop .i) (at .loop .end) taken (inv .1)) at (inv .7) in
     let bit : getD bits (at .loop .i) 0 < 2 = omega (arith, c .before .if1 .left) in
     ⊎-elim
     (λ w.
     let filled : List ℕ = set (at .loop .window) (at .loop .waiting) (getD bits (at .loop .i) 0) in
     let small = judged-small filled _ _ _ (w .2 .ensures) in
-    let full : length filled ≡ 50 = rw length-set (inv .2) in (
-      omega arith,
-      rw (w .10, w .8 .ensures .0) (small .room),
-      rw (w .9, w .8 .ensures .1) (after-places (w .2 .result) filled full),
-      omega (arith, w .12),
+    let full : length filled ≡ 50 = rw length-set (inv .3) in
+    let same = sameLock (at .loop .lock .mode) (w .2 .result .lock .mode) in
+    let bounds = left-bounds stop same (at .loop .i) (at .loop .end) taken in (
+      omega (arith, w .16, w .7 .ensures, bounds .0),
+      omega (arith, w .16, w .7 .ensures, bounds .1),
+      rw (w .11, w .9 .ensures .0) (small .room),
+      rw (w .10, w .9 .ensures .1) (after-places (w .2 .result) filled full),
       omega (arith, w .13),
       omega (arith, w .14),
-      rw (w .9, w .10, w .11, w .12, w .13, w .14, w .8 .ensures .0, w .8 .ensures .1)
-          (sym (run-judges bits (at .loop .i) _ _ _ more _ _ _ bit (omega (arith, w .0 .taken)) (w .2 .result) (w .2 .ensures)) ∙ inv .6),
+      omega (arith, w .15),
+      rw (w .10, w .11, w .12, w .13, w .14, w .15, w .16, w .7 .ensures, w .9 .ensures .0, w .9 .ensures .1, left-of bits (at .loop .i) (at .loop .end) stop same taken (inv .1))
+          (sym (on-judges stop (at .loop .i) _ _ _ _ _ bit _ _ _ (omega (arith, w .0 .taken)) (w .2 .result) (w .2 .ensures)) ∙ whole),
     ))
     (λ w. (
-      omega arith,
+      omega (arith, w .7),
+      omega (arith, w .7),
       omega (arith, w .0 .left, w .2),
-      rw (w .1, length-set) (inv .2),
+      rw (w .1, length-set) (inv .3),
       omega (arith, w .4),
       omega (arith, w .5),
       omega (arith, w .6),
-      rw (w .1, w .2, w .3, w .4, w .5, w .6)
-          (sym (run-waits bits (at .loop .i) _ _ _ more _ _ _ bit (omega (arith, w .0 .left))) ∙ inv .6),
+      rw (w .1, w .2, w .3, w .4, w .5, w .6, w .7)
+          (sym (on-waits stop (at .loop .i) _ _ _ _ _ bit _ _ _ (omega (arith, w .0 .left))) ∙ whole),
     ))
     (c .if2 .came)
 
@@ -149,8 +173,10 @@ returns-2 c =
     let at = c .before .before .before in
     let start = at .before .before .before .before .before in
     let bits = start .args .bits .now in
+    let none = left-none bits (at .loop .i) (at .loop .end) (c .before .before .loop-test .left) (at .loop .inv .1) in
     rw (c .counted2 .ensures, c .before .state-of2 .ensures)
-    (sym (run-done bits (at .loop .i) _ _ _ _ (c .before .before .loop-test .left)) ∙ at .loop .inv .6 ∙ entered bits (start .args .state) _ (at .before .lock-in .ensures))
+    (sym (on-done (start .args .stop) (at .loop .i) _ _ _ _) ∙ rw none at (at .loop .inv .7)
+    ∙ entered (start .args .stop) bits (start .args .state) _ (at .before .lock-in .ensures))
 
 pub feed-all-spec : {M : Type 1} → statement M
 feed-all-spec =
@@ -164,6 +190,7 @@ feed-all-spec =
     shared-slice-read-bit
     cast-state-of
     state-of-requires
+    number-requires
     counted-requires
     returns
     array-write-window
@@ -176,6 +203,8 @@ feed-all-spec =
     add-bad
     cast-passed
     add-passed
+    add-end-of
+    end-of-requires
     settle-requires
     add-i
     loop-less

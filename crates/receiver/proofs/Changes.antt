@@ -1,0 +1,189 @@
+-- A run that ends where lock changes: what it feeds are the first of the bits, before the last of them lock is what it was at
+-- the start, and where bits are left lock changed with the last one fed. What is left goes on from there, by `together`.
+-- Assumes nothing.
+use Prim.Native.Nat.{ℕ, zero, suc, _≤_, _<_}
+use native.Mathlib.Nat.{zero-add}
+use native.Mathlib.Omega.{arith}
+use mathlib.Core.Path.{_≡_, refl, sym, ap, _∙_}
+use mathlib.Core.Bool.{Bool, true, false, cond, not}
+use mathlib.Core.List.{List, [], _∷_}
+use borrow.Author.Tests.{ltb-false, lt-ltb, le-ltb}
+use lib.Dec.{eqb, ltb}
+use lib.ListN.{length, take, length-take}
+use Rattle.block.specs.Bits.{Bits}
+use Rattle.block.proofs.Strings.{bits-take}
+use Rattle.refusal.specs.declared.Refusal.the-variants.{RunTooLong, Improper}
+use Rattle.timekeeping.proofs.Choices.{cond-elim}
+use Rattle.locking.specs.Locks.{locked}
+use Rattle.receiver.specs.declared.State.{State}
+use Rattle.receiver.specs.declared.Stretch.{Stretch}
+use Rattle.receiver.specs.States.{properOf}
+use Rattle.receiver.specs.Steps.{Step, stepOf}
+use Rattle.receiver.specs.Runs.{runFrom, runOf}
+use Rattle.receiver.specs.History.{bitsBefore}
+use Rattle.receiver.specs.Changes.{sameLock, toChange, upTo, stretchFrom, refusedStretch, stretchOf, runToChange}
+use Rattle.receiver.proofs.Together.{from-bits, run-is}
+use Rattle.receiver.proofs.Running.{same-lock}
+
+-- ---- the bits up to the change
+
+pub change-length : (s : State) (bs : List ℕ) → length (toChange s bs) ≤ length bs
+unfolding toChange
+change-length s [] = omega arith
+change-length s (b ∷ bs) =
+    let t : State = stepOf s b .next in
+    cond-elim (λ (l : List ℕ). length (b ∷ l) ≤ length (b ∷ bs)) (sameLock (s .mode) (t .mode)) (λ _. omega (arith, change-length t bs)) (λ _. omega arith)
+
+up-to-length : (stop : Bool) (s : State) (bs : List ℕ) → length (upTo stop s bs) ≤ length bs
+up-to-length true s bs = change-length s bs
+up-to-length false s bs = omega arith
+
+change-first : (s : State) (bs : List ℕ) → take (length (toChange s bs)) bs ≡ toChange s bs
+unfolding toChange
+change-first s [] = refl
+change-first s (b ∷ bs) =
+    let t : State = stepOf s b .next in
+    cond-elim (λ (l : List ℕ). take (length (b ∷ l)) (b ∷ bs) ≡ b ∷ l) (sameLock (s .mode) (t .mode)) (λ _. ap (λ (l : List ℕ). b ∷ l) (change-first t bs)) (λ _. refl)
+
+change-bits : (s : State) (bs : List ℕ) → Bits bs → Bits (toChange s bs)
+change-bits s bs h = rw (change-first s bs) at (bits-take (length (toChange s bs)) bs h)
+
+-- ---- the three answers
+
+-- a run within the limit, from a proper state
+pub stretch-is : (stop : Bool) (s : State) (bs : List ℕ) → length bs ≤ 65536 → properOf s ≡ true
+    → stretchOf stop s bs ≡ stretchFrom (upTo stop s bs) 0 0 0 0 s
+unfolding stretchOf
+stretch-is stop s bs h p = rw (zero-add, le-ltb 65536 (length bs) h, p, run-is s (upTo stop s bs) (omega (arith, up-to-length stop s bs)) p)
+
+-- refused with 9 or with 10, or it is such a run
+stretch-elim : (P : Stretch → Type 0) (stop : Bool) (s : State) (bs : List ℕ) → P (refusedStretch RunTooLong s) → P (refusedStretch Improper s)
+    → (length bs ≤ 65536 → properOf s ≡ true → P (stretchOf stop s bs)) → P (stretchOf stop s bs)
+unfolding stretchOf
+stretch-elim P stop s bs long improper taken =
+    by (ltb 65536 (length bs)) (properOf s) refl refl
+  where
+    by : (a b : Bool) → ltb 65536 (length bs) ≡ a → properOf s ≡ b → P (stretchOf stop s bs)
+    by true b e p = rw e long
+    by false false e p = rw (e, p) improper
+    by false true e p = taken (ltb-false 65536 (length bs) e) p
+
+-- a run that does not stop at the change is the run
+pub all-run : (s : State) (bs : List ℕ) → stretchOf false s bs .ran ≡ runOf s bs
+unfolding stretchOf runOf
+all-run s bs = by (ltb 65536 (length bs)) (properOf s) refl refl
+  where
+    by : (long proper : Bool) → ltb 65536 (length bs) ≡ long → properOf s ≡ proper → stretchOf false s bs .ran ≡ runOf s bs
+    by true proper e p = rw e
+    by false true e p = rw (e, p)
+    by false false e p = rw (e, p)
+
+-- ---- lock
+
+-- what was locked the same way goes on the same way
+same-on : (a b c : ℕ) → sameLock a b ≡ true → sameLock a c ≡ sameLock b c
+unfolding sameLock
+same-on a b c = by (eqb a locked) (eqb b locked) (eqb c locked)
+  where
+    by : (a b c : Bool) → cond a b (not b) ≡ true → cond a c (not c) ≡ cond b c (not c)
+    by true true c e = refl
+    by true false c e = cc
+    by false true c e = cc
+    by false false c e = refl
+
+-- a bit that is fed with others behind it is one, and leaves lock as it was
+module _ (s : State) (b : ℕ) (bs : List ℕ) where
+  fed-on : (n : ℕ) → suc n < length (bitsBefore (toChange s (b ∷ bs)))
+      → (ltb b 2 ≡ true) × (sameLock (s .mode) (stepOf s b .next .mode) ≡ true) × (n < length (bitsBefore (toChange (stepOf s b .next) bs)))
+  unfolding toChange bitsBefore
+  fed-on n = by (ltb b 2) (sameLock (s .mode) (stepOf s b .next .mode))
+    where
+      by : (bit same : Bool) → suc n < length (cond bit (b ∷ bitsBefore (cond same (toChange (stepOf s b .next) bs) [])) [])
+          → (bit ≡ true) × (same ≡ true) × (n < length (bitsBefore (toChange (stepOf s b .next) bs)))
+      by true true h = (refl, refl, omega arith)
+      by true false h = absurd (omega arith)
+      by false same h = absurd (omega arith)
+
+from-unchanged : (bs : List ℕ) (n good bad passed : ℕ) (s : State) → n < length (bitsBefore (toChange s bs))
+    → sameLock (s .mode) (runFrom (take n bs) good bad passed s .state .mode) ≡ true
+unfolding runFrom toChange bitsBefore
+from-unchanged [] n good bad passed s h = absurd (omega arith)
+from-unchanged (b ∷ bs) zero good bad passed s h = same-lock (s .mode)
+from-unchanged (b ∷ bs) (suc n) good bad passed s h =
+    let t : Step = stepOf s b in
+    let on = fed-on s b bs n h in
+    rw (on .0) (same-on (s .mode) (t .next .mode) _ (on .1) ∙ from-unchanged bs n _ _ _ (t .next) (on .2))
+
+-- after any shorter part of the bits fed, the state is locked exactly if it was at the start
+pub unchanged : (s : State) (bs : List ℕ) (n : ℕ) → n < runToChange s bs .fed → sameLock (s .mode) (runOf s (take n bs) .state .mode) ≡ true
+unchanged s bs n =
+    stretch-elim (λ (r : Stretch). n < r .fed → sameLock (s .mode) (runOf s (take n bs) .state .mode) ≡ true) true s bs
+    (λ h. absurd (omega arith)) (λ h. absurd (omega arith))
+    (λ limit p h.
+    rw (run-is s (take n bs) (omega (arith, length-take n bs)) p)
+    (from-unchanged bs n 0 0 0 s (rw (stretch-is true s bs limit p, zero-add) at h)))
+
+-- the first bit of a run that is not refused is one
+first-bit : (b : ℕ) (bs : List ℕ) (good bad passed : ℕ) (s : State) → runFrom (b ∷ bs) good bad passed s .counts .refusal ≡ 0 → ltb b 2 ≡ true
+unfolding runFrom
+first-bit b bs good bad passed s e = by (ltb b 2) refl
+  where
+    by : (bit : Bool) → ltb b 2 ≡ bit → bit ≡ true
+    by true k = refl
+    by false k = let z : _≡_ {A = ℕ} 1 0 = rw k at e in absurd (omega arith)
+
+from-changed : (bs : List ℕ) (good bad passed : ℕ) (s : State) → runFrom (toChange s bs) good bad passed s .counts .refusal ≡ 0
+    → length (bitsBefore (toChange s bs)) < length bs → sameLock (s .mode) (runFrom (toChange s bs) good bad passed s .state .mode) ≡ false
+unfolding runFrom toChange bitsBefore
+from-changed [] good bad passed s e h = absurd (omega arith)
+from-changed (b ∷ bs) good bad passed s e h =
+    let t : Step = stepOf s b in
+    let same : Bool = sameLock (s .mode) (t .next .mode) in
+    let bit = first-bit b (cond same (toChange (t .next) bs) []) good bad passed s e in
+    by bit same refl
+    (λ l.
+    rw (l, bit)
+    (same-on (s .mode) (t .next .mode) _ l ∙ from-changed bs _ _ _ (t .next) (rw (l, bit) at e) (omega (arith, rw (l, bit) at h))))
+  where
+    by : ltb b 2 ≡ true → (same : Bool) → sameLock (s .mode) (stepOf s b .next .mode) ≡ same
+        → (sameLock (s .mode) (stepOf s b .next .mode) ≡ true → sameLock (s .mode) (runFrom (toChange s (b ∷ bs)) good bad passed s .state .mode) ≡ false)
+        → sameLock (s .mode) (runFrom (toChange s (b ∷ bs)) good bad passed s .state .mode) ≡ false
+    by bit true l on = on l
+    by bit false l on = rw (l, bit, l)
+
+-- where fewer bits were fed than given, and none was refused, lock changed with the last one fed
+pub changed : (s : State) (bs : List ℕ) → runToChange s bs .ran .counts .refusal ≡ 0 → runToChange s bs .fed < length bs
+    → sameLock (s .mode) (runToChange s bs .ran .state .mode) ≡ false
+changed s bs =
+    stretch-elim (λ (r : Stretch). r .ran .counts .refusal ≡ 0 → r .fed < length bs → sameLock (s .mode) (r .ran .state .mode) ≡ false) true s bs
+    (λ e. absurd (omega arith)) (λ e. absurd (omega arith))
+    (λ limit p. rw (stretch-is true s bs limit p, zero-add) (from-changed bs 0 0 0 s))
+
+-- ---- what is fed
+
+all-before : (xs : List ℕ) (good bad passed : ℕ) (s : State) → runFrom xs good bad passed s .counts .refusal ≡ 0 → bitsBefore xs ≡ xs
+unfolding runFrom bitsBefore
+all-before [] good bad passed s e = refl
+all-before (b ∷ bs) good bad passed s e =
+    let bit = first-bit b bs good bad passed s e in
+    rw bit (ap (λ (l : List ℕ). b ∷ l) (all-before bs _ _ _ (stepOf s b .next) (rw bit at e)))
+
+-- where no bit was refused, it is the run of the first bits, as many as were fed
+pub first-run : (s : State) (bs : List ℕ) → runToChange s bs .ran .counts .refusal ≡ 0
+    → runToChange s bs .ran ≡ runOf s (take (runToChange s bs .fed) bs)
+first-run s bs =
+    stretch-elim (λ (r : Stretch). r .ran .counts .refusal ≡ 0 → r .ran ≡ runOf s (take (r .fed) bs)) true s bs
+    (λ e. absurd (omega arith)) (λ e. absurd (omega arith))
+    (λ limit p.
+    rw (stretch-is true s bs limit p, zero-add)
+    (λ e.
+    rw (all-before (toChange s bs) 0 0 0 s e, change-first s bs)
+    (sym (run-is s (toChange s bs) (omega (arith, change-length s bs)) p))))
+
+-- bits within the limit, given to a proper state, are not refused, and where there is one at least one is fed
+pub bits-taken : (s : State) (bs : List ℕ) → properOf s ≡ true → Bits bs → length bs ≤ 65536 → runToChange s bs .ran .counts .refusal ≡ 0
+bits-taken s bs p h limit = rw (stretch-is true s bs limit p) (from-bits (toChange s bs) 0 0 0 s (change-bits s bs h) .0)
+
+pub one-fed : (s : State) (b : ℕ) (bs : List ℕ) → properOf s ≡ true → b < 2 → length (b ∷ bs) ≤ 65536 → 1 ≤ runToChange s (b ∷ bs) .fed
+unfolding toChange bitsBefore
+one-fed s b bs p h limit = rw (stretch-is true s (b ∷ bs) limit p, lt-ltb b 2 h) (omega arith)
