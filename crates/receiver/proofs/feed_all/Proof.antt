@@ -83,35 +83,42 @@ cast-good c = search needs
 
 add-good : tie.Need-add-good Inv-loop μ-loop
 add-good c =
-    let at = c .before .before .before .before .before .before .before in
-    omega (arith, judged-small (at .loop .window) _ _ _ (c .before .judge-window .ensures), at .loop .inv, at .before .before .before .before .before .pre)
+    let judged = c .before in
+    let at = judged .before .before .before .before .before .before in
+    omega (arith, judged-small (at .loop .window) _ _ _ (judged .judge-window .ensures), at .loop .inv, at .before .before .before .before .before .pre)
 
 cast-bad : tie.Need-cast-bad Inv-loop μ-loop
 cast-bad c = search needs
 
 add-bad : tie.Need-add-bad Inv-loop μ-loop
 add-bad c =
-    let at = c .before .before .before .before .before .before .before .before in
-    omega (arith, judged-small (at .loop .window) _ _ _ (c .before .before .judge-window .ensures), at .loop .inv, at .before .before .before .before .before .pre)
+    let judged = c .before .before in
+    let at = judged .before .before .before .before .before .before in
+    omega (arith, judged-small (at .loop .window) _ _ _ (judged .judge-window .ensures), at .loop .inv, at .before .before .before .before .before .pre)
 
 cast-passed : tie.Need-cast-passed Inv-loop μ-loop
 cast-passed c = search needs
 
 add-passed : tie.Need-add-passed Inv-loop μ-loop
 add-passed c =
-    let at = c .before .before .before .before .before .before .before .before .before in
-    omega (arith, judged-small (at .loop .window) _ _ _ (c .before .before .before .judge-window .ensures), at .loop .inv, at .before .before .before .before .before .pre)
+    let judged = c .before .before .before in
+    let at = judged .before .before .before .before .before .before in
+    omega (arith, judged-small (at .loop .window) _ _ _ (judged .judge-window .ensures), at .loop .inv, at .before .before .before .before .before .pre)
 
 add-end-of : tie.Need-add-end-of Inv-loop μ-loop
 add-end-of c =
-    let at = c .before .before .before .before .before .before .before .before .before .before in
-    omega (arith, at .loop .inv, at .before .before .before .before .before .pre, c .before .before .before .before .before .before .before .before .before .loop-test .taken)
+    let judged = c .before .before .before .before in
+    let test = judged .before .before .before .before .before in
+    let at = test .before in
+    omega (arith, at .loop .inv, at .before .before .before .before .before .pre, test .loop-test .taken)
 
 end-of-requires : tie.Need-end-of-requires Inv-loop μ-loop
 end-of-requires c κs = search needs
 
 settle-requires : tie.Need-settle-requires Inv-loop μ-loop
-settle-requires c κs = rw length-set (c .before .before .before .before .before .before .before .before .before .before .before .before .loop .inv .3)
+settle-requires c κs =
+    let judged = c .before .before .before .before .before .before in
+    rw length-set (judged .before .before .before .before .before .before .loop .inv .3)
 
 add-i : tie.Need-add-i Inv-loop μ-loop
 add-i c = omega arith
