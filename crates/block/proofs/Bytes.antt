@@ -11,20 +11,13 @@ use Rattle.block.specs.Bits.{Bits, bitsOf, value, valueFrom, xors, zeros
 use Rattle.block.specs.Block.{bodyOf, checkOf}
 use Rattle.block.specs.Division.{remainderFrom, remainder}
 use Rattle.block.proofs.Linear.{rem-xor}
-use Rattle.block.proofs.Strings.{bits-bitsOf, bits-zeros, length-bitsOf, bitsOf-join, val-append, val-bitsOf, val-from, val-lt, rem-append, rem-lt, rem-register, rem-small, rem-split, xors-zeros}
+use Rattle.block.proofs.Strings.{bits-bitsOf, bits-zeros, length-bitsOf, bitsOf-join, val-bitsOf, val-from, val-lt, val-zeros, rem-append, rem-lt, rem-register, rem-small, rem-split, xors-zeros, zeros-behind}
 use Rattle.block.proofs.CheckWord.{check-lt}
 
--- a byte and five zeros write the byte times 32
-five : (k : ℕ) → k < 256 → value (bitsOf 8 k ++ zeros 5) ≡ k * 32
-unfolding valueFrom
-five k h =
-    val-append (bitsOf 8 k) (zeros 5) 0
-    ∙ ap (λ (x : ℕ). ((((x * 2 + 0) * 2 + 0) * 2 + 0) * 2 + 0) * 2 + 0) (val-bitsOf 8 k h) ∙ omega arith
-
--- so a byte's remainder times x^13 is the register that holds the byte at its top, eight places on
+-- a byte's remainder times x^13 is the register that holds the byte at its top, eight places on
 byte-shift : (k : ℕ) → k < 256 → remainder (bitsOf 8 k ++ zeros 13) ≡ remainderFrom (k * 32) (zeros 8)
 byte-shift k h =
-    let e = five k h in
+    let e : value (bitsOf 8 k ++ zeros 5) ≡ k * 32 = zeros-behind (bitsOf 8 k) 5 ∙ ap (λ (n : ℕ). n * 32) (val-bitsOf 8 k h) in
     ap remainder (sym (append-assoc (bitsOf 8 k) (zeros 5) (zeros 8)))
     ∙ rem-append (bitsOf 8 k ++ zeros 5) (zeros 8) 0
     ∙ ap (λ (r : ℕ). remainderFrom r (zeros 8)) (rem-small (bitsOf 8 k ++ zeros 5) 0 (omega arith) ∙ e)
@@ -39,10 +32,6 @@ byte-step r bs hr hb e =
     ap₂ remainderFrom (sym s) (sym z)
     ∙ rem-xor (zeros 8) bs (r / 32 * 32) (r % 32) (omega arith) (omega arith) (bits-zeros 8) hb (sym e)
     ∙ ap₂ bitXor (sym (byte-shift (r / 32) (omega arith))) (rem-small bs (r % 32) (omega arith) ∙ w)
-
-eight-zeros : (x : ℕ) → x * 256 + value (zeros 8) ≡ x * 256
-unfolding valueFrom
-eight-zeros x = omega arith
 
 -- a byte after a string comes in at the top of the string's check word
 into-top : (s : List ℕ) (b : ℕ) → Bits s → b < 256 → checkOf (s ++ bitsOf 8 b) ≡ remainderFrom (bitXor (checkOf s) (b * 32)) (zeros 8)
@@ -65,7 +54,7 @@ check-step s b hs hb =
     let r : ℕ = bitXor c (b * 32) in
     let top : r / 32 ≡ bitXor (c / 32) b = xor-shr c (b * 32) 5 ∙ ap (bitXor (c / 32)) (let e : b * 32 / 32 ≡ b = omega arith in e) in
     let low : r % 32 ≡ c % 32 = xor-mod c (b * 32) 5 ∙ ap (bitXor (c % 32)) (let e : b * 32 % 32 ≡ 0 = omega arith in e) ∙ xor-zero-r (c % 32) in
-    let z : r % 32 * 256 + value (zeros 8) ≡ c % 32 * 256 = eight-zeros (r % 32) ∙ ap (λ (x : ℕ). x * 256) low in
+    let z : r % 32 * 256 + value (zeros 8) ≡ c % 32 * 256 = omega (arith, val-zeros 8 0) in
     into-top s b hs hb
     ∙ byte-step r (zeros 8) (xor-lt 13 c (b * 32) (check-lt s hs) (omega arith)) (bits-zeros 8) refl
     ∙ ap₂ (λ (x y : ℕ). bitXor (remainder (bitsOf 8 x ++ zeros 13)) y) top z

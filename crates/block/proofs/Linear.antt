@@ -8,18 +8,13 @@ use lib.ListN.{length}
 use lib.Bits.{bitXor, xor-shr, xor-block}
 use Rattle.block.specs.Bits.{Bits, xors}
 use Rattle.block.specs.Division.{generator, reduce, stepBit, remainderFrom}
-use Rattle.block.proofs.Xor.{on-bit, xor-swap}
-
-times-generator : (s t : ℕ) → s < 2 → t < 2 → bitXor s t * generator ≡ bitXor (s * generator) (t * generator)
-times-generator s t hs ht =
-    on-bit (λ s. bitXor s t * generator ≡ bitXor (s * generator) (t * generator)) refl
-    (on-bit (λ t. bitXor 1 t * generator ≡ bitXor generator (t * generator)) refl refl t ht) s hs
+use Rattle.block.proofs.Xor.{on-bit, sum-of-bits, xor-swap}
 
 reduce-xor : (n m : ℕ) → n < 16384 → m < 16384 → reduce (bitXor n m) ≡ bitXor (reduce n) (reduce m)
 unfolding reduce
 reduce-xor n m hn hm =
     ap (λ (x : ℕ). bitXor (bitXor n m) (x * generator)) (xor-shr n m 13)
-    ∙ ap (bitXor (bitXor n m)) (times-generator (n / 8192) (m / 8192) (omega arith) (omega arith))
+    ∙ ap (bitXor (bitXor n m)) (sum-of-bits (λ t. t * generator) refl (n / 8192) (m / 8192) (omega arith) (omega arith))
     ∙ xor-swap n m (n / 8192 * generator) (m / 8192 * generator)
 
 -- the x^13 of the generator takes off the x^13 that came up

@@ -13,7 +13,7 @@ use lib.Pow.{pow-mono}
 use lib.ListN.{length, getD, take, drop, length-append, length-drop, take-append-drop, drop-of-length-le, length-replicate}
 use lib.Seq.{drop-cons, drop-drop, take-all}
 use lib.Arith.{digits-div, digits-mod}
-use lib.Bits.{bitXor, xor-zero-r, block-half, block-odd}
+use lib.Bits.{bitXor, xor-lt, xor-zero-r, block-half, block-odd}
 use Rattle.block.specs.Bits.{Bits, areBits, zeros, xors, value, valueFrom, bitsOf}
 use Rattle.block.specs.Division.{generator, stepBit, remainderFrom, remainder}
 use Rattle.block.proofs.Linear.{step-lt, rem-xor}
@@ -107,6 +107,15 @@ unfolding valueFrom
 val-lt [] h = omega arith
 val-lt (b ∷ bs) h =
     omega (arith, val-from bs (0 * 2 + b), mul-le-mul-right (2 ^ length bs) (le-of-suc-le-suc (h .0)), val-lt bs (h .1), pow-suc 2 (length bs))
+
+-- zeros behind a string move its number up: thirteen are times x^13
+pub val-zeros : (k v : ℕ) → valueFrom v (zeros k) ≡ v * 2 ^ k
+unfolding valueFrom
+val-zeros zero v = omega arith
+val-zeros (suc k) v = val-zeros k (v * 2 + 0) ∙ rw pow-suc (omega arith)
+
+pub zeros-behind : (s : List ℕ) (k : ℕ) → value (s ++ zeros k) ≡ value s * 2 ^ k
+zeros-behind s k = val-append s (zeros k) 0 ∙ val-zeros k (value s)
 
 pub length-bitsOf : (k n : ℕ) → length (bitsOf k n) ≡ k
 unfolding bitsOf
@@ -208,6 +217,12 @@ unfolding xors
 length-xors [] ys e = refl
 length-xors (x ∷ xs) [] e = absurd (omega arith)
 length-xors (x ∷ xs) (y ∷ ys) e = ap suc (length-xors xs ys (omega arith))
+
+pub bits-xors : (s e : List ℕ) → Bits s → Bits e → Bits (xors s e)
+unfolding xors
+bits-xors [] e hs he = tt
+bits-xors (b ∷ s) [] hs he = tt
+bits-xors (b ∷ s) (c ∷ e) hs he = (xor-lt 1 b c (hs .0) (he .0), bits-xors s e (hs .1) (he .1))
 
 pub xors-zeros : (bs : List ℕ) → xors (zeros (length bs)) bs ≡ bs
 unfolding xors

@@ -13,6 +13,12 @@ on-bit P p q zero h = p
 on-bit P p q (suc zero) h = q
 on-bit P p q (suc (suc b)) h = absurd (omega arith)
 
+-- what gives 0 for 0 gives for the sum of two bits the sum of what it gives for each
+pub sum-of-bits : (f : ℕ → ℕ) → f 0 ≡ 0 → (s t : ℕ) → s < 2 → t < 2 → f (bitXor s t) ≡ bitXor (f s) (f t)
+sum-of-bits f z s t hs ht =
+    on-bit (λ s. f (bitXor s t) ≡ bitXor (f s) (f t)) (sym (ap (λ (x : ℕ). bitXor x (f t)) z))
+    (on-bit (λ t. f (bitXor 1 t) ≡ bitXor (f 1) (f t)) (sym (ap (bitXor (f 1)) z ∙ xor-zero-r (f 1))) (z ∙ sym (xor-self (f 1))) t ht) s hs
+
 xor-digit : (x y : ℕ) → x < 2 → y < 2 → bitXor x y ≡ differ x y
 xor-digit x y hx hy =
     on-bit (λ x. bitXor x y ≡ differ x y) refl (on-bit (λ y. bitXor 1 y ≡ differ 1 y) refl refl y hy) x hx

@@ -1,5 +1,6 @@
 pub mod Bits
 pub mod Division
+pub mod Polynomials
 pub mod Block
 pub mod Read
 pub mod Write

@@ -5,7 +5,7 @@ use mathlib.Core.Logic.{inl, inr, ⊎-elim}
 use mathlib.Core.Path.{_≡_, refl, sym, ap, ap₂, _∙_}
 use Prim.Native.Nat.{ℕ, zero, suc, _-_, _≤_}
 use native.Mathlib.Omega.{arith}
-use lib.Bits.{bitXor, xor-lt}
+use lib.Bits.{bitXor}
 use lib.Dec.{eqb}
 use lib.ListN.{length}
 use Rattle.block.specs.Bits.{Bits, xors}
@@ -13,7 +13,7 @@ use Rattle.block.specs.Block.{Good, prefixIn}
 use Rattle.block.specs.Division.{stepBit, remainderFrom, remainder}
 use Rattle.block.proofs.Xor.{on-bit, xor-cancel}
 use Rattle.block.proofs.Linear.{rem-xor}
-use Rattle.block.proofs.Strings.{bits-at, length-xors}
+use Rattle.block.proofs.Strings.{bits-at, bits-xors, length-xors}
 use Rattle.block.proofs.CheckWord.{good-rem}
 use Rattle.detection.specs.Damage.{Among, weight, Damage, few, odd, burst, groups, refusedBy, DamageRefused}
 use Rattle.detection.proofs.Odd.{not-odd}
@@ -61,12 +61,6 @@ not-damage (suc zero ∷ e) h l s z d = begins e (h .1) (omega arith) z d
 not-damage (suc (suc b) ∷ e) h l s z d = omega arith
 
 -- ---- the changed block
-
-bits-xors : (s e : List ℕ) → Bits s → Bits e → Bits (xors s e)
-unfolding xors
-bits-xors [] e hs he = tt
-bits-xors (b ∷ s) [] hs he = tt
-bits-xors (b ∷ s) (c ∷ e) hs he = (xor-lt 1 b c (hs .0) (he .0), bits-xors s e (hs .1) (he .1))
 
 prefix-xors : (s e : List ℕ) → Good s → length e ≡ 50 → prefixIn (xors s e) ≡ bitXor 1 (prefixIn e)
 unfolding xors
