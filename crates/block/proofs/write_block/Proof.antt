@@ -12,17 +12,17 @@ returns c =
     let e = ne-eqb _ _ (c .if1 .taken) in
     (simp e, simp e)
 
-returns-2 : tie.Need-returns-2
-returns-2 c =
-    let e = eq-eqb _ _ (c .before .if1 .left) in
-    let d = le-ltb (c .before .before .before .args .code) 16 (omega arith) in
-    (simp (e, d), simp (e, d))
-
 fill-requires : tie.Need-fill-requires
 fill-requires c κs = search needs
 
 same-length : tie.Need-same-length
 same-length c = search needs
+
+returns-2 : tie.Need-returns-2
+returns-2 c =
+    let e = eq-eqb _ _ (c .before .if1 .left) in
+    let d = le-ltb (c .before .before .before .args .code) 16 (omega arith) in
+    (simp (e, d), simp (e, d))
 
 returns-3 : tie.Need-returns-3
 returns-3 c =
