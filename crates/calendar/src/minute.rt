@@ -64,13 +64,9 @@ fn next_day(record: Record) -> Recorded
     } else {
         // After a whole year the start day goes on by the year's days.
         let start_day = ((record.start_day as u16 - 1 + days) % 7 + 1) as u8;
-        Recorded::Given(midnight(
-            (record.leap + 1) % 4,
-            start_day,
-            1,
-            start_day,
-            record.offset,
-        ))
+        let leap = (record.leap + 1) % 4;
+        let offset = record.offset;
+        Recorded::Given(midnight(leap, start_day, 1, start_day, offset))
     }
 }
 

@@ -40,8 +40,8 @@ add-start-day-2 c = search needs
 cast-start-day-2 : tie.Need-cast-start-day-2
 cast-start-day-2 c = search needs
 
-add-midnight : tie.Need-add-midnight
-add-midnight c =
+add-leap : tie.Need-add-leap
+add-leap c =
     let start = c .before .before .before .before .before .before in
     let b = bounds (start .args .«record») (start .pre) in
     omega arith
@@ -75,7 +75,7 @@ next-day-spec =
     add-start-day
     add-start-day-2
     cast-start-day-2
-    add-midnight
+    add-leap
     midnight-requires
     returns
     returns-2)
