@@ -3,8 +3,8 @@
 use Prim.Native.Nat.{_≤_}
 use native.Mathlib.Omega.{arith}
 use mathlib.Core.Path.{_≡_}
-use mathlib.Core.Bool.{true}
-use Rattle.record.proofs.Tests.{both, between, is-within}
+use mathlib.Core.Bool.{true, and-eq-true-iff}
+use Rattle.record.proofs.Tests.{between, is-within}
 use Rattle.record.proofs.Bounds.{Time, time-bounds, time-in-range}
 use Rattle.calendar.specs.declared.Date.{Date}
 use Rattle.calendar.specs.Years.{leapYear, yearLength}
@@ -20,8 +20,8 @@ pub record Bounds (d : Date) : Type 0 where
 pub bounds : (d : Date) → dateInRange d ≡ true → Bounds d
 unfolding dateInRange
 bounds d e =
-    let a = both _ _ e in
-    let b = both _ _ (a .1) in
+    let a = and-eq-true-iff _ _ .0 e in
+    let b = and-eq-true-iff _ _ .0 (a .1) in
     record { month = between 1 _ 12 (a .0); day = between 1 _ _ (b .0); time = time-bounds _ _ _ (b .1) }
 
 pub in-range : (d : Date) → Bounds d → dateInRange d ≡ true

@@ -3,14 +3,14 @@
 use Prim.Native.Nat.{ℕ, zero, suc, _+_, _-_, _≤_, _<_}
 use native.Mathlib.Omega.{arith}
 use mathlib.Core.Path.{_≡_, refl, _∙_}
-use mathlib.Core.Bool.{Bool, true, false, cond, _&&_}
+use mathlib.Core.Bool.{Bool, true, false, cond, _&&_, and-eq-true-iff}
 use mathlib.Core.Logic.{⊎-elim}
 use mathlib.Core.List.{List, [], _∷_}
 use borrow.Author.Tests.{le-leb, lt-leb, leb-true}
 use lib.Dec.{leb}
 use lib.ListN.{length, getD, drop, drop-of-length-le}
 use lib.Seq.{drop-cons}
-use Rattle.record.proofs.Tests.{both, le-or-lt}
+use Rattle.record.proofs.Tests.{le-or-lt}
 use Rattle.calendar.specs.Years.{yearLength}
 use Rattle.calendar.specs.Days.{months, monthLength, sumOf, dayOfMonth, monthDay, monthFrom}
 
@@ -42,8 +42,8 @@ long (n ∷ ns) = leb 28 n && long ns
 at-least : (ns : List ℕ) (k : ℕ) → long ns ≡ true → k < length ns → 28 ≤ getD ns k 0
 unfolding long
 at-least [] k t h = absurd (omega arith)
-at-least (n ∷ ns) zero t h = leb-true 28 n (both (leb 28 n) (long ns) t .0)
-at-least (n ∷ ns) (suc k) t h = at-least ns k (both (leb 28 n) (long ns) t .1) (omega arith)
+at-least (n ∷ ns) zero t h = leb-true 28 n (and-eq-true-iff (leb 28 n) (long ns) .0 t .0)
+at-least (n ∷ ns) (suc k) t h = at-least ns k (and-eq-true-iff (leb 28 n) (long ns) .0 t .1) (omega arith)
 
 pub month-least : (leap : Bool) (month : ℕ) → 1 ≤ month → month ≤ 12 → 28 ≤ monthLength leap month
 unfolding long

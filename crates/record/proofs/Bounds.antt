@@ -2,12 +2,12 @@
 -- Assumes nothing.
 use Prim.Native.Nat.{ℕ, _≤_}
 use mathlib.Core.Path.{_≡_}
-use mathlib.Core.Bool.{true}
+use mathlib.Core.Bool.{true, and-eq-true-iff}
 use borrow.Author.Tests.{leb-true, le-leb}
 use lib.IntN.{ℤ}
 use Rattle.record.specs.declared.Record.{Record}
 use Rattle.record.specs.Ranges.{offsetInRange, timeInRange, kindInRange, dayInRange, inRange}
-use Rattle.record.proofs.Tests.{both, between, is-within}
+use Rattle.record.proofs.Tests.{between, is-within}
 
 pub record Time (hour minute : ℕ) (offset : ℤ) : Type 0 where
   pub to-hour : hour ≤ 23
@@ -18,8 +18,8 @@ module _ (hour minute : ℕ) (offset : ℤ) where
   pub time-bounds : timeInRange hour minute offset ≡ true → Time hour minute offset
   unfolding timeInRange
   time-bounds e =
-      let a = both _ _ e in
-      let b = both _ _ (a .1) in
+      let a = and-eq-true-iff _ _ .0 e in
+      let b = and-eq-true-iff _ _ .0 (a .1) in
       record { to-hour = leb-true hour 23 (a .0); to-minute = leb-true minute 59 (b .0); offset-in = b .1 }
 
   pub time-in-range : Time hour minute offset → timeInRange hour minute offset ≡ true
@@ -36,10 +36,10 @@ pub record Bounds (r : Record) : Type 0 where
 pub bounds : (r : Record) → inRange r ≡ true → Bounds r
 unfolding inRange kindInRange dayInRange
 bounds r e =
-    let a = both _ _ e in
-    let b = both _ _ (a .1) in
-    let kind = both _ _ (a .0) in
-    let day = both _ _ (b .0) in
+    let a = and-eq-true-iff _ _ .0 e in
+    let b = and-eq-true-iff _ _ .0 (a .1) in
+    let kind = and-eq-true-iff _ _ .0 (a .0) in
+    let day = and-eq-true-iff _ _ .0 (b .0) in
     record {
       leap = leb-true _ 3 (kind .0);
       start-day = between 1 _ 7 (kind .1);

@@ -3,7 +3,7 @@
 use Prim.Native.Nat.{ℕ, suc, _<_, _≤_, _-_, _^_}
 use native.Mathlib.Omega.{arith}
 use mathlib.Core.Path.{_≡_, refl}
-use mathlib.Core.Bool.{Bool, true, false, cond}
+use mathlib.Core.Bool.{Bool, true, false, cond, and-eq-true-iff}
 use borrow.Author.Tests.{lt-ltb, le-ltb, ltb-true, leb-true}
 use lib.Dec.{T, ltb, leb}
 use lib.IntN.{ℤ, pos, negsuc, _-ℤ_, _+ℤ_, natAbs}
@@ -13,7 +13,6 @@ use mir.Val.{toZ, ofZ, SFits, Fits}
 use mir.Syntax.{w8}
 use Rattle.record.specs.Fields.{offsetOf, sixOf}
 use Rattle.record.specs.Ranges.{offsetInRange}
-use Rattle.record.proofs.Tests.{both}
 
 -- a number that fits a signed byte, written to it and read back; what a proof knows of a struct's fields is a tuple, in which
 -- the offset stands last: seventh of a record, sixth of a date
@@ -68,7 +67,7 @@ below-zero : (z : ℤ) → offsetInRange z ≡ true → ltZ z (pos 0) ≡ true �
 unfolding offsetInRange sixOf
 below-zero (pos n) r h = absurd (omega (arith, ltb-true n 0 h))
 below-zero (negsuc n) r h =
-    let k : n ≤ 31 = leb-true n 31 (both (leb n 31) true r .0) in
+    let k : n ≤ 31 = leb-true n 31 (and-eq-true-iff (leb n 31) true .0 r .0) in
     let e : 64 - suc n ≡ 63 - n = omega arith in
     rw (le-ltb 64 (suc n) (omega arith), e)
 

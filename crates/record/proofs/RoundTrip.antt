@@ -3,7 +3,7 @@
 use Prim.Native.Nat.{ℕ, _+_, _*_, _-_, _/_, _^_, _<_, _≤_}
 use native.Mathlib.Omega.{arith}
 use mathlib.Core.Path.{_≡_, refl}
-use mathlib.Core.Bool.{Bool, true, false, cond}
+use mathlib.Core.Bool.{Bool, true, false, cond, and-eq-true-iff}
 use borrow.Author.Tests.{eq-eqb, lt-ltb, le-ltb, leb-true, eqb-true}
 use lib.Dec.{eqb, ltb, leb}
 use lib.IntN.{ℤ, pos, negsuc}
@@ -15,7 +15,7 @@ use Rattle.record.specs.declared.Worded.the-variants as worded
 use Rattle.record.specs.Fields.{field, flagOf, offsetOf, sixOf, fieldsOf, wordOf}
 use Rattle.record.specs.Ranges.{offsetInRange, inRange}
 use Rattle.record.specs.Words.{readOf, writtenOf}
-use Rattle.record.proofs.Tests.{both, chosen, not-given}
+use Rattle.record.proofs.Tests.{chosen, not-given}
 use Rattle.record.proofs.Offset.{six-fits}
 use Rattle.record.proofs.Bounds.{Bounds, bounds}
 
@@ -33,7 +33,7 @@ pub offset-back : (z : ℤ) → offsetInRange z ≡ true → offsetOf (sixOf z) 
 unfolding sixOf offsetOf offsetInRange
 offset-back (pos n) r = let h : n ≤ 31 = leb-true n 31 r in rw (lt-ltb n 32 (omega arith))
 offset-back (negsuc n) r =
-    let h : n ≤ 31 = leb-true n 31 (both (leb n 31) true r .0) in
+    let h : n ≤ 31 = leb-true n 31 (and-eq-true-iff (leb n 31) true .0 r .0) in
     let e : 63 - (63 - n) ≡ n = omega arith in
     rw (le-ltb (63 - n) 32 (omega arith), e)
 

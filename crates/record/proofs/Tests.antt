@@ -3,7 +3,7 @@
 use Prim.Native.Nat.{ℕ, _≤_, _<_}
 use native.Mathlib.Omega.{arith}
 use mathlib.Core.Path.{_≡_, refl}
-use mathlib.Core.Bool.{Bool, true, false, cond, _&&_}
+use mathlib.Core.Bool.{Bool, true, false, cond, _&&_, and-eq-true-iff}
 use mathlib.Core.Logic.{_⊎_, inl, inr}
 use borrow.Author.Tests.{leb-true, leb-false, le-leb}
 use lib.Dec.{leb}
@@ -19,12 +19,8 @@ le-or-lt m n = by (leb m n) refl
     by true e = inl (leb-true m n e)
     by false e = inr (leb-false m n e)
 
-pub both : (a b : Bool) → (a && b) ≡ true → (a ≡ true) × (b ≡ true)
-both true b e = (refl, e)
-both false b e = let z : true ≡ false = cc in (cc, cc)
-
 pub between : (low n high : ℕ) → within low n high ≡ true → (low ≤ n) × (n ≤ high)
-between low n high e = let p = both (leb low n) (leb n high) e in (leb-true low n (p .0), leb-true n high (p .1))
+between low n high e = let p = and-eq-true-iff (leb low n) (leb n high) .0 e in (leb-true low n (p .0), leb-true n high (p .1))
 
 pub is-within : (low n high : ℕ) → low ≤ n → n ≤ high → within low n high ≡ true
 is-within low n high a b = rw (le-leb low n a) (le-leb n high b)
@@ -34,10 +30,9 @@ pub chosen : {A : Type 0} (t : Bool) (x y z : A) → (y ≡ z → ⊥) → cond 
 chosen true x y z n e = (refl, e)
 chosen false x y z n e = absurd (n e)
 
--- and one that does not come out as its first came out as its second
-pub left : {A : Type 0} (t : Bool) (x y z : A) → (x ≡ z → ⊥) → cond t x y ≡ z → t ≡ false
-left true x y z n e = absurd (n e)
-left false x y z n e = refl
-
 pub not-given : (why : Refusal) (r : Record) → Refused why ≡ Given r → ⊥
 not-given why r e = let z : _≡_ {A = ℕ} 0 1 = cc in omega arith
+
+-- the library's law by a shorter name, for `receiver`
+pub both : (a b : Bool) → (a && b) ≡ true → (a ≡ true) × (b ≡ true)
+both a b = and-eq-true-iff a b .0
