@@ -15,7 +15,7 @@ use Rattle.block.proofs.Xor.{on-bit, xor-cancel}
 use Rattle.block.proofs.Linear.{rem-xor}
 use Rattle.block.proofs.Strings.{bits-at, bits-xors, length-xors}
 use Rattle.block.proofs.CheckWord.{good-rem}
-use Rattle.detection.specs.Damage.{Among, weight, Damage, few, odd, burst, groups, refusedBy, DamageRefused}
+use Rattle.detection.specs.Damage.{Among, weight, Damage, few, odd, burst, groups, refusedWith, DamageRefused}
 use Rattle.detection.proofs.Odd.{not-odd}
 use Rattle.detection.proofs.Places.{only}
 use Rattle.detection.proofs.Burst.{not-burst}
@@ -84,5 +84,5 @@ pub damage-refused : DamageRefused
 damage-refused s e g p d =
     refused (xors s e) (length-xors s e (omega (arith, g .size, p .size)) ∙ g .size) (bits-xors s e (g .bits) (p .bits))
     (λ w. not-damage e (p .bits) (omega (arith, p .size)) (omega (arith, p .some)) (between s e g (p .size) (p .bits) w) d)
-    ∙ ap refusedBy
+    ∙ ap refusedWith
     (ap (λ (x : ℕ). eqb x 0) (prefix-xors s e g (p .size)) ∙ on-bit (λ x. eqb (bitXor 1 x) 0 ≡ eqb x 1) refl refl (prefixIn e) (bits-at e 0 (p .bits)))

@@ -9,10 +9,7 @@ use lib.Dec.{eqb}
 use lib.ListN.{length, getD}
 use Rattle.block.specs.Bits.{Bits, xors}
 use Rattle.block.specs.Block.{Good, prefixIn}
-use Rattle.block.specs.Read.{readOf}
-use Rattle.block.specs.declared.Read.{Read}
-use Rattle.block.specs.declared.Read.the-variants.{Refused}
-use Rattle.refusal.specs.declared.Refusal.the-variants.{WrongPrefix, WrongCheckWord}
+use Rattle.block.specs.Read.{readOf, refusalIn}
 
 -- Places are counted from 0, which is the prefix, to 49.
 -- A pattern of changes e is a string of bits with a 1 at each place that is changed: s becomes `xors s e`, and its bits stay 0 or 1.
@@ -47,10 +44,10 @@ pub data Damage (e : List ℕ) : Type 0 where
   -- two groups each within two neighbouring places, from a on and from b on
   groups : (a b : ℕ) → ((k : ℕ) → Changed e k → Among a 2 k ⊎ Among b 2 k) → Damage e
 
--- the refusal of fifty bits: with 3 where their prefix is wrong, with 4 otherwise (01, "Numbers given when something is refused")
-abbrev pub refusedBy : Bool → Read
-refusedBy prefixWrong = Refused (cond prefixWrong WrongPrefix WrongCheckWord)
+-- the number that fifty bits are refused with: 3 where their prefix is wrong, 4 otherwise (01, "Numbers given when something is refused")
+abbrev pub refusedWith : Bool → ℕ
+refusedWith prefixWrong = cond prefixWrong 3 4
 
 -- Every good block s with every such damage e is refused: with 3 where the prefix changed, with 4 otherwise.
 abbrev pub DamageRefused : Type 0
-DamageRefused = (s e : List ℕ) → Good s → Pattern e → Damage e → readOf (xors s e) ≡ refusedBy (eqb (prefixIn e) 1)
+DamageRefused = (s e : List ℕ) → Good s → Pattern e → Damage e → refusalIn (readOf (xors s e)) ≡ refusedWith (eqb (prefixIn e) 1)

@@ -6,9 +6,8 @@ use Prim.Native.Nat.{ℕ, _+_, _*_, _^_, _<_, _≤_}
 use lib.Dec.{eqb}
 use lib.ListN.{length, take, drop}
 use Rattle.block.specs.Block.{blockOf, prefixIn}
-use Rattle.block.specs.Read.{readOf}
-use Rattle.block.specs.declared.Read.the-variants.{Block}
-use Rattle.detection.specs.Damage.{refusedBy}
+use Rattle.block.specs.Read.{readOf, refusalIn}
+use Rattle.detection.specs.Damage.{refusedWith}
 
 -- what one block carries: a code of 0 to 15 and a word of 32 bits (01, "The block")
 pub record Message : Type 0 where
@@ -34,7 +33,7 @@ pub data Off (early late n start : ℕ) : Type 0 where
 
 -- w is refused: with 3 where it begins with a 0, with 4 otherwise
 abbrev pub IsRefused : List ℕ → Type 0
-IsRefused w = readOf w ≡ refusedBy (eqb (prefixIn w) 0)
+IsRefused w = refusalIn (readOf w) ≡ refusedWith (eqb (prefixIn w) 0)
 
 -- In every run, whatever the messages, each window that starts so far off a block and lies wholly inside the run is refused.
 abbrev pub Refuses : ℕ → ℕ → Type 0
@@ -49,8 +48,8 @@ SlipsRefused = Refuses 6 7
 abbrev pub NearRefused : Type 0
 NearRefused = Refuses 2 2
 
--- So, of the windows within two bits of the start of block n, only the one that starts there is ever taken as a block.
+-- So, of the windows within two bits of the start of block n, only the one that starts there is ever taken as a block: its number is 0.
 abbrev pub Aligned : Type 0
 Aligned =
-    (messages : List Message) (n start code word : ℕ) → 50 * n ≤ start + 2 → start ≤ 50 * n + 2 → start + 50 ≤ length (sent messages)
-    → readOf (window (sent messages) start) ≡ Block code word → start ≡ 50 * n
+    (messages : List Message) (n start : ℕ) → 50 * n ≤ start + 2 → start ≤ 50 * n + 2 → start + 50 ≤ length (sent messages)
+    → refusalIn (readOf (window (sent messages) start)) ≡ 0 → start ≡ 50 * n
