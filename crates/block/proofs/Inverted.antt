@@ -6,12 +6,10 @@ use Prim.Native.Nat.{ℕ}
 use native.Mathlib.Omega.{arith}
 use lib.ListN.{length}
 use lib.Bits.{bitXor}
-use Rattle.refusal.specs.declared.Refusal.the-variants.{WrongPrefix}
 use Rattle.block.specs.Bits.{Bits, bitsOf, zeros}
 use Rattle.block.specs.Division.{remainderFrom, remainder}
 use Rattle.block.specs.Block.{Good, prefixIn, inverted}
-use Rattle.block.specs.Read.{readOf}
-use Rattle.block.specs.declared.Read.the-variants.{Refused}
+use Rattle.block.specs.Read.{readOf, refusalIn}
 use Rattle.block.proofs.CheckWord.{good-rem, none-check}
 
 -- behind the prefix 1 the inverted block divides as the bits behind the prefix do
@@ -32,6 +30,6 @@ inverted-good (p ∷ bs) l h e =
 pub ghost : List ℕ
 ghost = 0 ∷ (zeros 36 ++ bitsOf 13 (remainder (1 ∷ zeros 49)))
 
-pub ghost-refused : (length ghost ≡ 50) × (remainder (inverted ghost) ≡ 0) × (readOf ghost ≡ Refused WrongPrefix)
+pub ghost-refused : (length ghost ≡ 50) × (remainder (inverted ghost) ≡ 0) × (refusalIn (readOf ghost) ≡ 3)
 unfolding ghost bitsOf remainderFrom readOf
 ghost-refused = (refl, refl, refl)
