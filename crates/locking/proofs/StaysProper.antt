@@ -10,7 +10,7 @@ use Rattle.block.specs.declared.Read.{Read}
 use Rattle.timekeeping.specs.declared.Time.{Time}
 use Rattle.timekeeping.specs.Times.{usableIn, offeredTo}
 use Rattle.timekeeping.specs.Proper.{isNoTime, isZeroRecord, timeProper}
-use Rattle.timekeeping.proofs.Choices.{cond-elim, and-i}
+use Rattle.timekeeping.proofs.Choices.{cond-elim}
 use Rattle.timekeeping.proofs.StaysProper.{usable-in, time-offered}
 use Rattle.locking.specs.declared.Judged.{Judged}
 use Rattle.locking.specs.declared.Lock.{Lock}
@@ -27,14 +27,14 @@ tried-proper good w h =
     cond-elim Kept (isGood w)
     (λ _.
     cond-elim (λ (l : Lock). lockProper l ≡ true) (leb 3 (good + 1)) (λ _. refl)
-    (λ e. and-i (le-leb 1 (good + 1) (omega arith)) (and-i (le-leb (good + 1) 2 (omega (arith, leb-false 3 (good + 1) e))) refl)))
+    (λ e. and-eq-true-iff _ _ .1 (le-leb 1 (good + 1) (omega arith), and-eq-true-iff _ _ .1 (le-leb (good + 1) 2 (omega (arith, leb-false 3 (good + 1) e)), refl))))
     (λ _. refl)
 
 held-proper : (bad : ℕ) (t : Time) (w : Read) → bad ≤ 3 → timeProper t ≡ true → Kept (heldOn bad t w)
 unfolding lockProper isNoTime isZeroRecord
 held-proper bad t w h e =
     let o : timeProper (offeredTo t (usableIn w)) ≡ true = time-offered t (usableIn w) (usable-in w) e in
-    held-elim Kept bad t w o refl (λ f. and-i (le-leb (bad + 1) 3 (omega arith)) o)
+    held-elim Kept bad t w o refl (λ f. and-eq-true-iff _ _ .1 (le-leb (bad + 1) 3 (omega arith), o))
 
 hunted-proper : (w : Read) → Kept (hunted w)
 unfolding hunted lockProper isNoTime isZeroRecord

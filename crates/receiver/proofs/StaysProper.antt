@@ -13,7 +13,7 @@ use Rattle.block.specs.Read.{readOf}
 use Rattle.block.specs.declared.Read.the-variants as read
 use Rattle.record.specs.Words as words
 use Rattle.timekeeping.specs.Proper.{isNoTime, isZeroRecord}
-use Rattle.timekeeping.proofs.Choices.{cond-elim, and-i}
+use Rattle.timekeeping.proofs.Choices.{cond-elim}
 use Rattle.locking.specs.declared.Judged.{Judged}
 use Rattle.locking.specs.declared.Lock.{Lock}
 use Rattle.locking.specs.Locks.{lockProper}
@@ -33,13 +33,13 @@ use Rattle.receiver.proofs.Small.{filled-places, step-places}
 bits-set : (w : ℕ) (l : List ℕ) (b : ℕ) → b < 2 → w < length l → bitsProper w l ≡ true → bitsProper (suc w) (set l w b) ≡ true
 unfolding bitsProper
 bits-set w [] b h k e = absurd (omega arith)
-bits-set zero (x ∷ l) b h k e = and-i (lt-ltb b 2 h) (and-eq-true-iff (eqb x 0) (bitsProper zero l) .0 e .1)
-bits-set (suc w) (x ∷ l) b h k e = let p = and-eq-true-iff (ltb x 2) (bitsProper w l) .0 e in and-i (p .0) (bits-set w l b h (omega arith) (p .1))
+bits-set zero (x ∷ l) b h k e = and-eq-true-iff _ _ .1 (lt-ltb b 2 h, and-eq-true-iff (eqb x 0) (bitsProper zero l) .0 e .1)
+bits-set (suc w) (x ∷ l) b h k e = let p = and-eq-true-iff (ltb x 2) (bitsProper w l) .0 e in and-eq-true-iff _ _ .1 (p .0, bits-set w l b h (omega arith) (p .1))
 
 bits-more : (l : List ℕ) → bitsProper (length l) l ≡ true → bitsProper (length l) (l ++ 0 ∷ []) ≡ true
 unfolding bitsProper
 bits-more [] e = refl
-bits-more (x ∷ l) e = let p = and-eq-true-iff (ltb x 2) (bitsProper (length l) l) .0 e in and-i (p .0) (bits-more l (p .1))
+bits-more (x ∷ l) e = let p = and-eq-true-iff (ltb x 2) (bitsProper (length l) l) .0 e in and-eq-true-iff _ _ .1 (p .0, bits-more l (p .1))
 
 bits-shift : (l : List ℕ) → length l ≡ 50 → bitsProper 50 l ≡ true → bitsProper 49 (drop 1 l ++ 0 ∷ []) ≡ true
 unfolding bitsProper
@@ -71,7 +71,7 @@ module _ (s : State) (p : Proper s) (b : ℕ) (bit : b < 2) where
 
   grown : s .waiting < 49 → properOf (waits s (filled s b) .next) ≡ true
   unfolding properOf
-  grown h = and-i (lt-ltb (s .waiting + 1) 50 (omega arith)) (and-i more (bits-and-lock s (p .proper) .1))
+  grown h = and-eq-true-iff _ _ .1 (lt-ltb (s .waiting + 1) 50 (omega arith), and-eq-true-iff _ _ .1 (more, bits-and-lock s (p .proper) .1))
 
   full : 49 ≤ s .waiting → bitsProper 50 (filled s b) ≡ true
   full h = let e : s .waiting + 1 ≡ 50 = omega (arith, room s (p .proper)) in rw e at more
@@ -79,7 +79,7 @@ module _ (s : State) (p : Proper s) (b : ℕ) (bit : b < 2) where
 judged-state : (l : Lock) (w : List ℕ) → lockProper l ≡ true → length w ≡ 50 → bitsProper 50 w ≡ true → properOf (judges w (judgedBy l (readOf w)) .next) ≡ true
 unfolding properOf bitsProper
 judged-state l w e h k =
-    judged-elim (λ (j : Judged). Kept j → properOf (judges w j .next) ≡ true) l (readOf w) (λ _ p. p) (λ _ p. p) (λ p. and-i (bits-shift w h k) p)
+    judged-elim (λ (j : Judged). Kept j → properOf (judges w j .next) ≡ true) l (readOf w) (λ _ p. p) (λ _ p. p) (λ p. and-eq-true-iff _ _ .1 (bits-shift w h k, p))
     (judged-proper l (readOf w) e)
 
 -- a step leaves a proper state proper

@@ -1,4 +1,4 @@
--- What a test that passed or failed says, for conjunctions, ranges and choices.
+-- What a test that passed or failed says, for ranges and choices.
 -- Assumes nothing.
 use Prim.Native.Nat.{ℕ, _≤_, _<_}
 use native.Mathlib.Omega.{arith}
@@ -32,7 +32,3 @@ chosen false x y z n e = absurd (n e)
 
 pub not-given : (why : Refusal) (r : Record) → Refused why ≡ Given r → ⊥
 not-given why r e = let z : _≡_ {A = ℕ} 0 1 = cc in omega arith
-
--- the library's law by a shorter name, for `receiver`
-pub both : (a b : Bool) → (a && b) ≡ true → (a ≡ true) × (b ≡ true)
-both a b = and-eq-true-iff a b .0
