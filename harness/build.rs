@@ -1,4 +1,4 @@
-//! Links the static library, by default the one that `rt staticlib longwave`
+//! Links the static library, by default the one that `bash tools/library`
 //! leaves in the project's target folder.
 
 use std::env;
@@ -11,7 +11,7 @@ fn main() {
     println!("cargo:rerun-if-changed={}", archive.display());
     assert!(
         archive.is_file(),
-        "{} is missing: run `rt staticlib longwave` first, or name its folder in LONGWAVE_LIB_DIR",
+        "{} is missing: run `bash tools/library` first, or name its folder in LONGWAVE_LIB_DIR",
         archive.display()
     );
     println!("cargo:rustc-link-search=native={}", folder.display());

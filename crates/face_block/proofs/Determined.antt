@@ -1,0 +1,27 @@
+-- Two results that a contract of this face allows for the same input are equal, lent bytes included.
+-- Assumes nothing.
+use mathlib.Core.Path.{sym, _∙_}
+use denote.Ref.{now}
+use Rattle.refusal.proofs.Determined.{Determined, Leaves}
+use Rattle.face_block.proofs.lw_choose.Reads as choose
+use Rattle.face_block.proofs.lw_read_block.Reads as read-block
+use Rattle.face_block.proofs.lw_version.Reads as version
+use Rattle.face_block.proofs.lw_write_block.Reads as write-block
+
+pub read-block-determined : Determined read-block.Post
+read-block-determined κs a x y s t p q = p ∙ sym q
+
+pub write-block-determined : Determined write-block.Post
+write-block-determined κs a x y s t p q = p .0 ∙ sym (q .0)
+
+pub write-block-leaves : Leaves write-block.Post (λ κs s. now (s .1 .1 .0))
+write-block-leaves κs a x y s t p q = p .1 ∙ sym (q .1)
+
+pub choose-determined : Determined choose.Post
+choose-determined κs a x y s t p q = p .0 ∙ sym (q .0)
+
+pub choose-leaves : Leaves choose.Post (λ κs s. now (s .1 .1 .0))
+choose-leaves κs a x y s t p q = p .1 ∙ sym (q .1)
+
+pub version-determined : Determined version.Post
+version-determined κs a x y s t p q = p ∙ sym q

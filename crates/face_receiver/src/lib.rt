@@ -1,0 +1,34 @@
+// The receiver's calls as C sees them: the state is lent and changed where it stands, and its counts are handed back.
+ghost use mathlib.Core.Path.{_≡_};
+ghost use Rattle.receiver.specs.Runs.{fedOf, runOf};
+ghost use Rattle.receiver.specs.States.{freshOf};
+use receiver::Counts;
+use receiver::State;
+
+// Hunting, with nothing waiting and no time.
+#[no_mangle]
+pub extern "C" fn lw_fresh() -> State
+    ensures { λ s. ⌜ s ≡ freshOf ⌝ }
+{
+    receiver::fresh()
+}
+
+// One bit into the lent state, changed where it stands.
+#[no_mangle]
+pub extern "C" fn lw_feed(state: &mut State, bit: u8) -> Counts
+    ensures { λ r. ⌜ (r ≡ fedOf (now (state .entry)) bit .counts) × (now (state .exit) ≡ fedOf (now (state .entry)) bit .state) ⌝ }
+{
+    let ran = receiver::step(*state, bit);
+    *state = ran.state;
+    ran.counts
+}
+
+// A run of bits into the lent state.
+#[no_mangle]
+pub extern "C" fn lw_run(state: &mut State, bits: &[u8]) -> Counts
+    ensures { λ r. ⌜ (r ≡ runOf (now (state .entry)) (now (bits .entry)) .counts) × (now (state .exit) ≡ runOf (now (state .entry)) (now (bits .entry)) .state) ⌝ }
+{
+    let ran = receiver::run(*state, bits);
+    *state = ran.state;
+    ran.counts
+}
