@@ -1,2 +1,3 @@
 pub mod Lending
+pub mod Rows
 pub mod Determined

@@ -1,0 +1,17 @@
+-- The receiver's state, its counts, and what a step or a run hands back, as `Lending` takes them.
+-- Assumes nothing.
+use Rattle.face_receiver.proofs.Lending.{Data, Handed}
+use Rattle.receiver.proofs.Counts as counts
+use Rattle.receiver.proofs.Counts.Laws as counts′
+use Rattle.receiver.proofs.Ran as ran
+use Rattle.receiver.proofs.State as state
+use Rattle.receiver.proofs.State.Laws as state′
+
+abbrev pub state-rows : Data
+state-rows = record { type = state.the-type; known = state′.the-laws; facts = state′.the-plain; lowers = state′.lowers }
+
+abbrev pub counts-rows : Data
+counts-rows = record { type = counts.the-type; known = counts′.the-laws; facts = counts′.the-plain; lowers = counts′.lowers }
+
+abbrev pub ran-rows : Handed state-rows counts-rows
+ran-rows = record { name = ran.the-type .name; Both = ran.the-type .D; answer = λ r. r .counts; state = λ r. r .state; one = ran.the-type .to-one }
