@@ -18,9 +18,9 @@ pub extern "C" fn lw_fresh() -> State
 pub extern "C" fn lw_feed(state: &mut State, bit: u8) -> Counts
     ensures { λ r. ⌜ (r ≡ fedOf (now (state .entry)) bit .counts) × (now (state .exit) ≡ fedOf (now (state .entry)) bit .state) ⌝ }
 {
-    let ran = receiver::step(*state, bit);
-    *state = ran.state;
-    ran.counts
+    let fed = receiver::step(*state, bit);
+    *state = fed.state;
+    fed.counts
 }
 
 // A run of bits into the lent state.
