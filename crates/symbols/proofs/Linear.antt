@@ -8,9 +8,9 @@ use native.Mathlib.Nat.{mod-lt, mul-assoc}
 use native.Mathlib.Omega.{arith}
 use lib.Bits.{bitXor, xor-lt, xor-shifted, xor-block}
 use lib.Dec.{T, eqb, ltb, eqb→eq, ltb→lt}
-use lib.ListN.{length, drop}
+use lib.ListN.{length, take, drop, take-append-drop, length-drop}
 use lib.Pow.{mod-pow-add, pow-pos}
-use lib.Seq.{drop-append-seam}
+use lib.Seq.{take-at, drop-append-seam}
 use Rattle.block.specs.Bits.{xors}
 use Rattle.block.proofs.Xor.{on-bit}
 use Rattle.block.proofs.Below.{at-below, both-left, both-right}
@@ -40,6 +40,15 @@ differing-behind : (a b c : List ℕ) → differing (a ++ b) (a ++ c) ≡ differ
 differing-behind [] b c = refl
 differing-behind (x ∷ a) b c = differing-same x (a ++ b) (a ++ c) ∙ differing-behind a b c
 
+-- a codeword is known by its first nine symbols
+pub same-nine : (c d : List ℕ) → Codeword c → Codeword d → take 9 c ≡ take 9 d → c ≡ d
+same-nine c d p q e =
+    let lc : length (drop 9 c) ≡ 6 = length-drop 9 c ∙ omega (arith, p .size) in
+    let l : length (drop 9 c) ≡ length (drop 9 d) = lc ∙ sym (length-drop 9 d ∙ omega (arith, q .size)) in
+    let behind : differing c d ≡ differing (drop 9 c) (drop 9 d) =
+    sym (ap₂ differing (take-append-drop 9 c) (ap (λ (l : List ℕ). l ++ drop 9 d) e ∙ take-append-drop 9 d)) ∙ differing-behind (take 9 c) (drop 9 c) (drop 9 d) in
+    apart c d p q (omega (arith, behind, differing-weight (drop 9 c) (drop 9 d) l, weight-length (xors (drop 9 c) (drop 9 d)), length-xors (drop 9 c) (drop 9 d) l))
+
 -- a sum of codewords is one
 sum-code : (c d : List ℕ) → Codeword c → Codeword d → Codeword (xors c d)
 sum-code c d p q =
@@ -55,13 +64,11 @@ module _ (u v : List ℕ) (lu : length u ≡ 9) (lv : length v ≡ 9) (su : Symb
   linear =
       let l : length u ≡ length v = lu ∙ sym lv in
       let w : List ℕ = xors u v in
+      let lw : length w ≡ 9 = length-xors u v l ∙ lu in
       let c : List ℕ = xors (checksOf u) (checksOf v) in
-      let lc : length c ≡ 6 = length-xors (checksOf u) (checksOf v) (length-checks u ∙ sym (length-checks v)) ∙ length-checks u in
       let added : Codeword (w ++ c) = subst Codeword (xors-append u (checksOf u) v (checksOf v) l) (sum-code (u ++ checksOf u) (v ++ checksOf v) (encoded u lu su) (encoded v lv sv)) in
-      let few : differing (w ++ c) (w ++ checksOf w) ≤ 6 =
-      omega (arith, differing-behind w c (checksOf w), differing-weight c (checksOf w) (lc ∙ sym (length-checks w)), weight-length (xors c (checksOf w)), length-xors c (checksOf w) (lc ∙ sym (length-checks w))) in
       sym (drop-append-seam w c)
-      ∙ ap (drop (length w)) (apart (w ++ c) (w ++ checksOf w) added (encoded w (length-xors u v l ∙ lu) (symbols-xors u v su sv)) few)
+      ∙ ap (drop (length w)) (same-nine (w ++ c) (w ++ checksOf w) added (encoded w lw (symbols-xors u v su sv)) (take-at w c 9 lw ∙ sym (take-at w (checksOf w) 9 lw)))
       ∙ drop-append-seam w (checksOf w)
 
 pub checked-xor : (m n c d : ℕ) → Checked m c → Checked n d → Checked (bitXor m n) (bitXor c d)
