@@ -7,13 +7,12 @@ use native.Mathlib.Omega.{arith}
 use lib.Bits.{bitXor, xor-zero-r, xor-block}
 use lib.ListN.{length, getD, set, length-set}
 use lib.Seq.{getD-set-same, getD-set-other}
-use Rattle.refusal.specs.declared.Refusal.the-variants.{WrongCrc}
 use Rattle.polish.specs.Frame.{Fixed, bodyIn, checksIn, crcIn}
-use Rattle.polish.specs.Read.{Behind, Reads, behind}
+use Rattle.polish.specs.Read.{Behind, Reads, behind, refusalIn}
 use Rattle.polish.specs.declared.Read.{Read}
-use Rattle.polish.specs.declared.Read.the-variants.{Told, Refused}
+use Rattle.polish.specs.declared.Read.the-variants.{Told}
 use Rattle.polish.specs.declared.Time.{Time}
-use Rattle.polish.proofs.Mending.{behind-fixed}
+use Rattle.polish.proofs.FixedBits.{behind-fixed}
 use Rattle.polish.proofs.Mismatch.{other-crc, other-sk1}
 use Rattle.polish.proofs.Parts.{body-bytes, checks-bytes}
 
@@ -64,7 +63,8 @@ sk1-body frame l h =
     ∙ rw (at 3 (λ e. omega arith), at 4 (λ e. omega arith), at 5 (λ e. omega arith), at 6 (λ e. omega arith), getD-set-same frame 7 (bitXor last 1) 0 (omega arith)) (omega arith) in
     d ∙ ap (λ (n : ℕ). n * 256 + bitXor last 1) (sym (xor-zero-r high)) ∙ sym (xor-block 8 high 0 last 1 h (omega arith)) ∙ ap (λ (n : ℕ). bitXor n 1) (sym e)
 
-pub crc-changed : (frame : List ℕ) {time : Time} (byte : ℕ) {r : Read} → Reads frame (Told time) → (byte ≡ crcIn frame → ⊥) → Reads (set frame 11 byte) r → r ≡ Refused WrongCrc
+pub crc-changed : (frame : List ℕ) {time : Time} (byte : ℕ) {r : Read} → Reads frame (Told time) → (byte ≡ crcIn frame → ⊥)
+    → Reads (set frame 11 byte) r → refusalIn r ≡ 22
 crc-changed frame byte {r} (behind l f b) d reads =
     let there = read-on frame 11 byte (omega arith) l f reads in
     let k : crcIn (set frame 11 byte) ≡ byte = getD-set-same frame 11 byte 0 (omega arith) in
@@ -72,7 +72,7 @@ crc-changed frame byte {r} (behind l f b) d reads =
     (rw (same-body frame 11 byte (omega arith) l (omega arith), same-checks frame 11 byte (omega arith) l (λ j p q e. omega arith), k) at there)
 
 pub sk1-changed : (frame : List ℕ) {time : Time} {r : Read} → getD frame 7 0 < 256 → Reads frame (Told time)
-    → Reads (set frame 7 (bitXor (getD frame 7 0) 1)) r → r ≡ Refused WrongCrc
+    → Reads (set frame 7 (bitXor (getD frame 7 0) 1)) r → refusalIn r ≡ 22
 sk1-changed frame {r} h (behind l f b) reads =
     let byte = bitXor (getD frame 7 0) 1 in
     let there = read-on frame 7 byte (omega arith) l f reads in

@@ -7,4 +7,5 @@ pub mod FixedBits
 pub mod Determined
 pub mod Mismatch
 pub mod Mending
+pub mod Taken
 pub mod Flips

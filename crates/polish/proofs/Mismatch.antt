@@ -1,4 +1,4 @@
--- Any other CRC byte, and any other SK1, is refused for the CRC: the register tells every two last bytes that differ in their lowest bit apart.
+-- Any other CRC byte, and any other SK1, gets 22: the register tells every two last bytes that differ in their lowest bit apart.
 -- Assumes nothing.
 use mathlib.Core.Bool.{not}
 use mathlib.Core.List.{List, [], _∷_, _++_}
@@ -10,7 +10,6 @@ use lib.Bits.{bitXor, xor-lt, xor-shr, xor-mod, xor-block, xor-zero-r}
 use lib.Dec.{T, eqb, T-not, eqb-refl}
 use lib.ListN.{take}
 use lib.Pow.{pow-pos}
-use Rattle.refusal.specs.declared.Refusal.the-variants.{WrongCrc}
 use Rattle.block.proofs.Xor.{xor-assoc}
 use Rattle.symbols.specs.Code.{Near}
 use Rattle.symbols.specs.Digits.{digits, number}
@@ -19,9 +18,9 @@ use Rattle.block.proofs.Below.{at-below}
 use Rattle.symbols.proofs.Unique.{unique}
 use Rattle.polish.specs.Crc.{crcShifts, crcFrom}
 use Rattle.polish.specs.Frame.{crcOfBody, wordOf, mendedTo}
-use Rattle.polish.specs.Read.{Behind, none, wrong, right}
+use Rattle.polish.specs.Read.{Behind, none, wrong, right, refusalIn}
 use Rattle.polish.specs.declared.Read.{Read}
-use Rattle.polish.specs.declared.Read.the-variants.{Told, Refused}
+use Rattle.polish.specs.declared.Read.the-variants.{Told}
 use Rattle.polish.specs.declared.Time.{Time}
 use Rattle.polish.proofs.Register.{moved-right}
 
@@ -83,7 +82,7 @@ lowest-bit body e =
 -- ---- what is told once is told with one CRC byte and one SK1 only
 
 pub other-crc : (body checks crc other : ℕ) {time : Time} {r : Read} → Behind body checks crc (Told time) → (other ≡ crc → ⊥)
-    → Behind body checks other r → r ≡ Refused WrongCrc
+    → Behind body checks other r → refusalIn r ≡ 22
 other-crc body checks crc other (right c m e) d (none g) = absurd (g c m)
 other-crc body checks crc other (right c m e) d (wrong c′ m′ f) = refl
 other-crc body checks crc other (right c m e) d (right c′ m′ f) =
@@ -106,7 +105,7 @@ flipped codeword body =
     ∙ sym (xor-block 1 high 0 b 1 (omega arith) (omega arith)) ∙ ap (λ (x : ℕ). bitXor x 1) d
 
 pub other-sk1 : (body checks crc : ℕ) {time : Time} {r : Read} → Behind body checks crc (Told time)
-    → Behind (bitXor body 1) checks crc r → r ≡ Refused WrongCrc
+    → Behind (bitXor body 1) checks crc r → refusalIn r ≡ 22
 other-sk1 body checks crc (right c m e) (none g) = absurd (g c (subst (λ (w : List ℕ). Near w c) (sym (same-word body checks)) m))
 other-sk1 body checks crc (right c m e) (wrong c′ m′ f) = refl
 other-sk1 body checks crc (right c m e) (right c′ m′ f) =

@@ -1,11 +1,13 @@
 -- Times, bodies and frames, there and back: each field has its own place in the body, and each part its own in the frame.
 -- Assumes nothing.
+use borrow.Author.Tests.{lt-ltb}
 use mathlib.Core.Bool.{true}
-use mathlib.Core.List.{List, _++_}
+use mathlib.Core.List.{List, [], _∷_, _++_}
 use mathlib.Core.Path.{_≡_, refl, sym, ap, _∙_, subst}
 use Prim.Native.Nat.{ℕ, _+_, _*_, _/_, _%_, _^_, _<_}
 use native.Mathlib.Omega.{arith}
 use lib.Bits.{bitXor, xor-lt, xor-shr}
+use lib.Dec.{ltb}
 use lib.ListN.{length, getD}
 use lib.Seq.{take-at}
 use Rattle.symbols.specs.Code.{Codeword, checksOf, Checked}
@@ -50,6 +52,35 @@ module _ (time : Time) (h : fitting time ≡ true) where
       let b = bounds time h in
       let top : plainOf time / 2 ^ 37 ≡ 5 = omega arith in
       xor-shr (plainOf time) key 37 ∙ ap (λ (n : ℕ). bitXor n 0) top
+
+-- what a body tells fits
+pub told-fits : (body : ℕ) → fitting (timeIn body) ≡ true
+unfolding fitting timeIn
+told-fits body =
+    let n = bitXor body key in
+    let bit : (m : ℕ) → ltb (m % 2) 2 ≡ true = λ m. lt-ltb (m % 2) 2 (omega arith) in
+    rw (lt-ltb (n / 2 ^ 7 % 2 ^ 30) (2 ^ 30) (omega arith), bit (n / 64), bit (n / 32), bit (n / 16), bit (n / 8), bit (n / 4), bit (n / 2), bit n)
+
+-- seven bits, written out
+flags : (a b c d e f g : ℕ) → a * 64 + b * 32 + c * 16 + d * 8 + e * 4 + f * 2 + g ≡ number 1 (a ∷ b ∷ c ∷ d ∷ e ∷ f ∷ g ∷ [])
+unfolding number
+flags a b c d e f g = omega arith
+
+lowest-seven : (n : ℕ) → n / 64 % 2 * 64 + n / 32 % 2 * 32 + n / 16 % 2 * 16 + n / 8 % 2 * 8 + n / 4 % 2 * 4 + n / 2 % 2 * 2 + n % 2 ≡ n % 2 ^ 7
+unfolding digits
+lowest-seven n =
+    let last : n % 2 ≡ n / 1 % 2 = omega arith in
+    flags (n / 64 % 2) (n / 32 % 2) (n / 16 % 2) (n / 8 % 2) (n / 4 % 2) (n / 2 % 2) (n % 2)
+    ∙ ap (λ (g : ℕ). number 1 (n / 64 % 2 ∷ n / 32 % 2 ∷ n / 16 % 2 ∷ n / 8 % 2 ∷ n / 4 % 2 ∷ n / 2 % 2 ∷ g ∷ [])) last ∙ number-digits 1 7 n
+
+-- and a body with the three fixed bits is that of the time that it tells
+pub body-back : (body : ℕ) → body < 2 ^ 40 → body / 2 ^ 37 ≡ 5 → bodyOf (timeIn body) ≡ body
+unfolding bodyOf timeIn
+body-back body h t =
+    let n = bitXor body key in
+    let top : n / 2 ^ 37 ≡ 5 = xor-shr body key 37 ∙ ap (λ (m : ℕ). bitXor m 0) t in
+    let whole : 5 * 2 ^ 37 + n / 2 ^ 7 % 2 ^ 30 * 2 ^ 7 + n % 2 ^ 7 ≡ n = omega arith in
+    ap (λ (m : ℕ). bitXor (5 * 2 ^ 37 + n / 2 ^ 7 % 2 ^ 30 * 2 ^ 7 + m) key) (lowest-seven n) ∙ ap (λ (m : ℕ). bitXor m key) whole ∙ xor-twice body key
 
 -- ---- bodies and frames
 
