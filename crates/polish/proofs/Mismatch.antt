@@ -12,8 +12,8 @@ use lib.ListN.{take}
 use lib.Pow.{pow-pos}
 use Rattle.block.proofs.Xor.{xor-assoc}
 use Rattle.symbols.specs.Code.{Near}
-use Rattle.symbols.specs.Digits.{digits, number}
-use Rattle.symbols.proofs.Digits.{Below, digits-append}
+use Rattle.field16.specs.Digits.{digits, number}
+use Rattle.field16.proofs.Digits.{Below, digits-append}
 use Rattle.block.proofs.Below.{at-below}
 use Rattle.symbols.proofs.Unique.{unique}
 use Rattle.polish.specs.Crc.{crcShifts, crcFrom}

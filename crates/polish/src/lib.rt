@@ -8,7 +8,7 @@ ghost use lib.ListN.{length};
 ghost use Rattle.polish.specs.Frame.{bodyOf, timeIn, framed};
 ghost use Rattle.polish.specs.Read.{Behind, Reads};
 ghost use Rattle.polish.specs.Write.{fitting, writeOf, writtenOf};
-ghost use Rattle.symbols.specs.Digits.{number};
+ghost use Rattle.field16.specs.Digits.{number};
 use crc::crc;
 use refusal::Refusal;
 use symbols::Mended;

@@ -2,22 +2,16 @@
 -- Assumes nothing.
 use mathlib.Core.List.{List}
 use mathlib.Core.Path.{_≡_, refl, sym, ap, _∙_}
-use Prim.Native.Nat.{ℕ, _*_, _^_, _<_}
-use native.Mathlib.Nat.{mod-eq-of-lt}
+use Prim.Native.Nat.{ℕ}
 use Rattle.refusal.proofs.Determined.{Determined}
-use Rattle.symbols.specs.Digits.{digits, number}
+use Rattle.field16.specs.Digits.{digits}
 use Rattle.symbols.specs.Mending.{Mends}
 use Rattle.symbols.specs.declared.Mended.{Mended}
 use Rattle.symbols.specs.declared.Mended.the-variants.{Nearest, Farther}
-use Rattle.symbols.proofs.Digits.{number-digits}
+use Rattle.field16.proofs.Digits.{same-number}
 use Rattle.symbols.proofs.Unique.{unique}
 use Rattle.symbols.proofs.checks.Reads as checks
 use Rattle.symbols.proofs.mend.Reads as mend
-
--- numbers with the same symbols are the same
-same-number : (k m n : ℕ) → m < 2 ^ (4 * k) → n < 2 ^ (4 * k) → digits 4 k m ≡ digits 4 k n → m ≡ n
-same-number k m n hm hn e =
-    sym (mod-eq-of-lt hm) ∙ sym (number-digits 4 k m) ∙ ap (number 4) e ∙ number-digits 4 k n ∙ mod-eq-of-lt hn
 
 pub checks-determined : Determined checks.Post
 checks-determined κs a x y s t p q = same-number 6 x y (p .small) (q .small) (p .are ∙ sym (q .are))

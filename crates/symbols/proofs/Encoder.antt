@@ -11,31 +11,12 @@ use Rattle.block.specs.Bits.{zeros}
 use Rattle.block.proofs.Xor.{xor-assoc}
 use Rattle.block.proofs.Below.{at-below}
 use Rattle.block.proofs.Strings.{length-xors}
-use Rattle.symbols.specs.Code.{Symbols, aTo, at, Codeword, scaled, generator, encodeStep, encodeFrom, checksOf}
-use Rattle.symbols.specs.Field.{times, power}
-use Rattle.symbols.specs.Search.{weight}
-use Rattle.symbols.proofs.Elements.{times-lt, times-comm, times-assoc, times-xor, xor-times, times-one, times-zero, zero-times, power-lt}
-use Rattle.symbols.proofs.Words.{symbols-xors, at-xors, at-lt, times-swap}
-use Rattle.symbols.proofs.Distance.{at-weightless, at-first-zero}
-
-power-add : (X m n : ℕ) → power X (m + n) ≡ times (power X m) (power X n)
-unfolding power
-power-add X zero n = let e : 0 + n ≡ n = omega arith in ap (power X) e ∙ sym (times-one (power X n) (power-lt X n))
-power-add X (suc m) n =
-    let e : suc m + n ≡ suc (m + n) = omega arith in
-    ap (power X) e ∙ ap (times X) (power-add X m n) ∙ times-assoc X (power X m) (power X n)
-
--- the value of two words one after the other
-pub at-append : (X : ℕ) (u v : List ℕ) → at X (u ++ v) ≡ bitXor (times (at X u) (power X (length v))) (at X v)
-unfolding at
-at-append X [] v = sym (ap (λ (n : ℕ). bitXor n (at X v)) (zero-times (power X (length v))) ∙ xor-zero-l (at X v))
-at-append X (c ∷ cs) v =
-    let p : ℕ = power X (length v) in
-    ap₂ (λ (n y : ℕ). bitXor (times c (power X n)) y) (length-append cs v) (at-append X cs v)
-    ∙ ap (λ (q : ℕ). bitXor (times c q) (bitXor (times (at X cs) p) (at X v))) (power-add X (length cs) (length v))
-    ∙ sym (xor-assoc (times c (times (power X (length cs)) p)) (times (at X cs) p) (at X v))
-    ∙ ap (λ (n : ℕ). bitXor n (at X v))
-    (ap (λ (n : ℕ). bitXor n (times (at X cs) p)) (times-assoc c (power X (length cs)) p) ∙ sym (xor-times (times c (power X (length cs))) (at X cs) p))
+use Rattle.field16.specs.Words.{Symbols, aTo, at, weight}
+use Rattle.symbols.specs.Code.{Codeword, scaled, generator, encodeStep, encodeFrom, checksOf}
+use Rattle.field16.specs.Field.{times, power}
+use Rattle.field16.proofs.Elements.{times-lt, times-comm, times-assoc, times-xor, xor-times, times-one, times-zero, zero-times, power-lt}
+use Rattle.field16.proofs.Words.{symbols-xors, at-xors, at-lt, times-swap, at-append}
+use Rattle.field16.proofs.Distance.{at-weightless, at-first-zero}
 
 at-scaled : (X y : ℕ) (w : List ℕ) → at X (scaled y w) ≡ times y (at X w)
 unfolding at

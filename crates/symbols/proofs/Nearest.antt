@@ -3,7 +3,7 @@
 -- Assumes nothing.
 use mathlib.Core.List.{List, [], _∷_, _++_}
 use mathlib.Core.Path.{_≡_, refl, sym, ap, ap₂, _∙_, subst}
-use Prim.Native.Nat.{ℕ, zero, suc, _+_, _/_, _%_, _^_, _<_, _≤_}
+use Prim.Native.Nat.{ℕ, _+_, _/_, _%_, _^_}
 use native.Mathlib.Nat.{div-add-mod'}
 use native.Mathlib.Omega.{arith}
 use lib.Bits.{bitXor, xor-self, xor-zero-r}
@@ -11,36 +11,18 @@ use lib.ListN.{length}
 use Rattle.block.specs.Bits.{xors}
 use Rattle.block.proofs.Xor.{xor-cancel, xor-eq}
 use Rattle.block.proofs.Strings.{length-xors}
-use Rattle.symbols.specs.Code.{Symbols, aTo, at, Codeword, differing, Near, checksOf}
-use Rattle.symbols.specs.Digits.{digits}
-use Rattle.symbols.specs.Field.{times, power}
-use Rattle.symbols.specs.Search.{sumsFrom, sixSums, takeAway, Second, Pair, weight, Mistakes}
-use Rattle.symbols.proofs.Complete.{pair-missed}
-use Rattle.symbols.proofs.Digits.{length-digits, symbols-digits, digits-low, digits-append, digits-xor}
-use Rattle.symbols.proofs.Encoder.{at-append, encoded, length-checks}
+use Rattle.field16.specs.Words.{Symbols, aTo, at, weight}
+use Rattle.symbols.specs.Code.{Codeword, differing, Near, checksOf}
+use Rattle.field16.specs.Digits.{digits}
+use Rattle.field16.specs.Field.{times, power}
+use Rattle.power_sums.specs.Sums.{sixSums}
+use Rattle.wrong_symbols.specs.Explained.{Mistakes, Explains}
+use Rattle.field16.proofs.Digits.{length-digits, symbols-digits, digits-low, digits-append, digits-xor}
+use Rattle.field16.proofs.Words.{at-append, symbols-xors, at-xors}
+use Rattle.symbols.proofs.Encoder.{encoded, length-checks}
 use Rattle.symbols.proofs.Unique.{differing-self, differing-weight}
-use Rattle.symbols.proofs.Words.{symbols-xors, at-xors}
-
--- power sums are the same where the values are, and only there
-sums-same : (n k : ℕ) (u v : List ℕ) → ((j : ℕ) → n ≤ j → j < n + k → at (aTo j) u ≡ at (aTo j) v) → sumsFrom n k u ≡ sumsFrom n k v
-unfolding sumsFrom
-sums-same n zero u v f = refl
-sums-same n (suc k) u v f =
-    ap₂ (λ (x : ℕ) (l : List ℕ). x ∷ l) (f n (omega arith) (omega arith)) (sums-same (suc n) k u v (λ j p q. f j (omega arith) (omega arith)))
-
-sums-at : (n k : ℕ) (u v : List ℕ) → sumsFrom n k u ≡ sumsFrom n k v → (i : ℕ) → i < k → at (aTo (i + n)) u ≡ at (aTo (i + n)) v
-unfolding sumsFrom
-sums-at n zero u v e i h = absurd (omega arith)
-sums-at n (suc k) u v e zero h =
-    let z : 0 + n ≡ n = omega arith in
-    rw z (let d : at (aTo n) u ≡ at (aTo n) v = cc in d)
-sums-at n (suc k) u v e (suc i) h =
-    let z : suc i + n ≡ i + suc n = omega arith in
-    rw z (sums-at (suc n) k u v (cc) i (omega arith))
-
-six-at : (u v : List ℕ) → sixSums u ≡ sixSums v → (j : ℕ) → 1 ≤ j → j ≤ 6 → at (aTo j) u ≡ at (aTo j) v
-six-at u v e zero p q = absurd (omega arith)
-six-at u v e (suc j) p q = let z : j + 1 ≡ suc j = omega arith in rw z at (sums-at 1 6 u v e j (omega arith))
+use Rattle.wrong_symbols.specs.declared.Explained.the-variants.{TooMany}
+use Rattle.power_sums.proofs.Lists.{sums-same, six-at}
 
 xors-cancel : (u v : List ℕ) → length u ≡ length v → xors u (xors u v) ≡ v
 unfolding xors
@@ -124,12 +106,10 @@ module _ (word : ℕ) where
           within = omega (arith, d, m .few);
         })
 
-    -- where no pair of places is found, no codeword is near
-    pub none-near : Pair (sixSums (digits 4 6 (bitXor checks (received % 2 ^ 24)))) 0 0 → (c : List ℕ) → Near (digits 4 15 word) c → ⊥
-    none-near p c q =
+    -- where no three symbols explain the sums, no codeword is near
+    pub none-near : Explains (digits 4 6 (bitXor checks (received % 2 ^ 24))) TooMany → (c : List ℕ) → Near (digits 4 15 word) c → ⊥
+    none-near none c q =
         let w : List ℕ = digits 4 15 word in
         let lw : length w ≡ 15 = length-digits 4 15 word in
         let l : length w ≡ length c = lw ∙ sym (q .code .size) in
-        let s : sixSums (xors w c) ≡ sixSums (digits 4 6 (bitXor checks (received % 2 ^ 24))) = code-adds-nothing w c lw (q .code) ∙ same-sums in
-        pair-missed (xors w c) (length-xors w c l ∙ lw)
-        (λ z h k. subst (λ (t : List ℕ). Second (takeAway z t) z 0) (sym s) (p .none refl z h k)) (omega (arith, differing-weight w c l, q .within))
+        none (xors w c) (length-xors w c l ∙ lw) (omega (arith, differing-weight w c l, q .within)) (code-adds-nothing w c lw (q .code) ∙ same-sums)

@@ -2,7 +2,7 @@
 -- Assumes nothing.
 use mathlib.Core.Bool.{Bool, true, false}
 use mathlib.Core.List.{List, [], _∷_}
-use mathlib.Core.Path.{_≡_, refl, sym, ap, ap₂, _∙_}
+use mathlib.Core.Path.{_≡_, refl, sym, ap, _∙_}
 use Prim.Native.Nat.{ℕ, suc, _+_, _≤_}
 use borrow.Author.Tests.{eqb-true, eqb-false}
 use native.Mathlib.Omega.{arith}
@@ -11,11 +11,9 @@ use lib.Dec.{eqb}
 use lib.ListN.{length}
 use Rattle.block.specs.Bits.{xors}
 use Rattle.block.proofs.Xor.{xor-eq}
-use Rattle.block.proofs.Strings.{length-xors}
-use Rattle.symbols.specs.Code.{aTo, Codeword, differing, Near}
-use Rattle.symbols.specs.Search.{weight}
-use Rattle.symbols.proofs.Words.{symbols-xors, at-xors}
-use Rattle.symbols.proofs.Distance.{weight-nil, weight-none, weight-one, positive, vanishing}
+use Rattle.field16.specs.Words.{weight}
+use Rattle.symbols.specs.Code.{Codeword, differing, Near}
+use Rattle.field16.proofs.Distance.{weight-nil, weight-none, weight-one, positive, same-word}
 
 -- two words go on with the same symbol or with different ones
 data Goes (b c : ℕ) (bs cs : List ℕ) : Type 0 where
@@ -65,10 +63,6 @@ module _ (b c : ℕ) (bs cs : List ℕ) where
   weight-step (same e d) h = d ∙ h ∙ sym (weight-none (bitXor b c) (xors bs cs) (ap (bitXor b) (sym e) ∙ xor-self b))
   weight-step (other f d) h = d ∙ ap suc h ∙ sym (weight-one (bitXor b c) (xors bs cs) (positive (bitXor b c) (λ z. f (xor-eq b c z))))
 
-  none-step : Goes b c bs cs → (differing bs cs ≡ 0 → bs ≡ cs) → differing (b ∷ bs) (c ∷ cs) ≡ 0 → b ∷ bs ≡ c ∷ cs
-  none-step (same e d) h z = ap₂ (λ (x : ℕ) (l : List ℕ). x ∷ l) e (h (sym d ∙ z))
-  none-step (other f d) h z = absurd (omega arith)
-
 differing-le : (bs cs : List ℕ) → differing bs cs ≤ length bs + length cs
 differing-le [] cs = omega (arith, differing-nil cs)
 differing-le (b ∷ bs) [] = omega (arith, nil-differing (b ∷ bs))
@@ -105,22 +99,11 @@ differing-weight [] (c ∷ cs) e = absurd (omega arith)
 differing-weight (b ∷ bs) [] e = absurd (omega arith)
 differing-weight (b ∷ bs) (c ∷ cs) e = weight-step b c bs cs (goes b c bs cs) (differing-weight bs cs (omega arith))
 
--- words that differ nowhere are the same
-pub differing-none : (u v : List ℕ) → differing u v ≡ 0 → u ≡ v
-differing-none [] [] e = refl
-differing-none [] (c ∷ cs) e = absurd (omega (arith, differing-nil (c ∷ cs)))
-differing-none (b ∷ bs) [] e = absurd (omega (arith, nil-differing (b ∷ bs)))
-differing-none (b ∷ bs) (c ∷ cs) e = none-step b c bs cs (goes b c bs cs) (differing-none bs cs) e
-
 -- codewords of distance six or less are the same
 pub apart : (c d : List ℕ) → Codeword c → Codeword d → differing c d ≤ 6 → c ≡ d
 apart c d p q h =
-    let l : length c ≡ length d = p .size ∙ sym (q .size) in
-    let e : differing c d ≡ weight (xors c d) = differing-weight c d l in
-    differing-none c d
-    (e
-    ∙ vanishing 15 6 (xors c d) (length-xors c d l ∙ p .size) (omega arith) (symbols-xors c d (p .symbols) (q .symbols)) (omega arith)
-    (λ j i k. at-xors (aTo j) c d l ∙ ap₂ bitXor (p .roots j i k) (q .roots j i k)))
+    let e : differing c d ≡ weight (xors c d) = differing-weight c d (p .size ∙ sym (q .size)) in
+    same-word c d (p .size) (q .size) (p .symbols) (q .symbols) (omega arith) (λ j i k. p .roots j i k ∙ sym (q .roots j i k))
 
 pub unique : (word c d : List ℕ) → Near word c → Near word d → c ≡ d
 unique word c d p q = apart c d (p .code) (q .code) (omega (arith, triangle word c d, p .within, q .within))

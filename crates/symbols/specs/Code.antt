@@ -8,22 +8,9 @@ use lib.Bits.{bitXor}
 use lib.Dec.{eqb}
 use lib.ListN.{length, drop}
 use Rattle.block.specs.Bits.{xors, zeros}
-use Rattle.symbols.specs.Digits.{digits}
-use Rattle.symbols.specs.Field.{times, power}
-
--- a to the j, where a is the element x
-abbrev pub aTo : ℕ → ℕ
-aTo j = power 2 j
-
-abbrev pub Symbols : List ℕ → Type 0
-Symbols [] = Unit {0}
-Symbols (c ∷ cs) = (c < 16) × Symbols cs
-
--- the value of a word at X: its first symbol is the coefficient of the highest power
-unfoldable pub at : ℕ → List ℕ → ℕ
-unfolding power
-at X [] = 0
-at X (c ∷ cs) = bitXor (times c (power X (length cs))) (at X cs)
+use Rattle.field16.specs.Digits.{digits}
+use Rattle.field16.specs.Field.{times, power}
+use Rattle.field16.specs.Words.{aTo, Symbols, at}
 
 -- a codeword vanishes at the generator's roots, a^1 to a^6
 pub record Codeword (word : List ℕ) : Type 0 where

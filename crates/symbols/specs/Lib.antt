@@ -1,5 +1,2 @@
-pub mod Field
-pub mod Digits
 pub mod Code
 pub mod Mending
-pub mod Search

@@ -3,7 +3,7 @@
 use mathlib.Core.List.{List}
 use Prim.Native.Nat.{ℕ, _<_, _^_}
 use Rattle.symbols.specs.Code.{Near}
-use Rattle.symbols.specs.Digits.{digits}
+use Rattle.field16.specs.Digits.{digits}
 use Rattle.symbols.specs.declared.Mended.{Mended}
 use Rattle.symbols.specs.declared.Mended.the-variants.{Nearest, Farther}
 

@@ -1,17 +1,12 @@
 // The Reed-Solomon code of the Polish frame: fifteen symbols of four bits, the last six of them check symbols.
 // A word is one number, four bits to each symbol, the first highest.
 mod code;
-mod field;
-mod mending;
-mod search;
 
 ghost use Rattle.symbols.specs.Code.{Checked};
-ghost use Rattle.symbols.specs.Digits.{digits};
+ghost use Rattle.field16.specs.Digits.{digits};
 ghost use Rattle.symbols.specs.Mending.{Mends};
 use code::asked;
-use mending::mistakes;
-use search::find_places;
-use search::sums;
+use wrong_symbols::Explained;
 
 // The codeword near a word, or none.
 pub enum Mended {
@@ -44,10 +39,9 @@ pub fn mend(word: u64) -> Mended
     if difference == 0 {
         return Mended::Nearest(received);
     }
-    let s = sums(difference);
-    let pair = find_places(s);
-    if pair.first == 0 {
-        return Mended::Farther;
+    let answer = wrong_symbols::explain(difference);
+    match answer {
+        Explained::TooMany => Mended::Farther,
+        Explained::Wrong(mistakes) => Mended::Nearest(received ^ mistakes),
     }
-    Mended::Nearest(received ^ mistakes(s, pair.first, pair.second))
 }

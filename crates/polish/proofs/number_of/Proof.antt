@@ -8,7 +8,7 @@ use native.Mathlib.Omega.{arith}
 use lib.ListN.{length, getD, take, length-append}
 use lib.Pow.{pow-add, pow-mono}
 use lib.Seq.{take-suc, take-all}
-use Rattle.symbols.specs.Digits.{number}
+use Rattle.field16.specs.Digits.{number}
 use Rattle.polish.proofs.number_of.Statement.{statement}
 use Rattle.polish.proofs.number_of.Tie as tie
 

@@ -1,0 +1,5 @@
+pub mod Elements
+pub mod Digits
+pub mod Words
+pub mod Distance
+pub mod Determined

@@ -1,0 +1,9 @@
+pub mod Places
+pub mod Complete
+pub mod Filter
+pub mod Terms
+pub mod Fitting
+pub mod Values
+pub mod Sound
+pub mod Placed
+pub mod Determined
