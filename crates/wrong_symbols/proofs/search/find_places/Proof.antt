@@ -36,7 +36,7 @@ returns c =
     record {
       none = λ e. absurd (omega (arith, lp .loop .inv .0));
       some = λ _. (
-        c .before .before .before .loop-test .taken,
+        omega (arith, c .before .before .before .loop-test .taken),
         c .if1 .taken,
         subst (λ (t : List ℕ). Second t (lp .loop .x) (c .before .second .result)) (c .before .before .five .ensures) (c .before .second .ensures),
       );
