@@ -8,11 +8,11 @@ use native.Mathlib.Omega.{arith}
 use lib.ListN.{take}
 use lib.Seq.{take-at}
 use Rattle.refusal.specs.declared.Refusal.the-variants.{NoCodeword, WrongCrc}
+use Rattle.field16.specs.Digits.{digits, number}
+use Rattle.field16.proofs.Digits.{length-digits, digits-low, digits-append, number-digits}
 use Rattle.symbols.specs.declared.Mended.{Mended}
 use Rattle.symbols.specs.declared.Mended.the-variants.{Nearest, Farther}
-use Rattle.field16.specs.Digits.{digits, number}
 use Rattle.symbols.specs.Mending.{Mends}
-use Rattle.field16.proofs.Digits.{length-digits, digits-low, digits-append, number-digits}
 use Rattle.polish.specs.Frame.{timeIn, crcOfBody, wordOf, mendedTo}
 use Rattle.polish.specs.Read.{Behind, none, wrong, right}
 use Rattle.polish.specs.declared.Read.the-variants.{Told, Refused}

@@ -11,10 +11,10 @@ use lib.Dec.{T, eqb, T-not, eqb-refl}
 use lib.ListN.{take}
 use lib.Pow.{pow-pos}
 use Rattle.block.proofs.Xor.{xor-assoc}
-use Rattle.symbols.specs.Code.{Near}
+use Rattle.block.proofs.Below.{at-below}
 use Rattle.field16.specs.Digits.{digits, number}
 use Rattle.field16.proofs.Digits.{Below, digits-append}
-use Rattle.block.proofs.Below.{at-below}
+use Rattle.symbols.specs.Code.{Near}
 use Rattle.symbols.proofs.Unique.{unique}
 use Rattle.polish.specs.Crc.{crcShifts, crcFrom}
 use Rattle.polish.specs.Frame.{crcOfBody, wordOf, mendedTo}

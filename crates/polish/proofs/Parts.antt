@@ -6,10 +6,10 @@ use Prim.Native.Nat.{ℕ, zero, suc, _+_, _*_, _/_, _%_, _^_, _≤_, _<_}
 use native.Mathlib.Omega.{arith}
 use lib.ListN.{length, getD, take, drop}
 use lib.Seq.{drop-cons}
-use Rattle.symbols.specs.Code.{checksOf}
 use Rattle.field16.specs.Digits.{digits, number}
-use Rattle.power_sums.proofs.Lists.{elements}
+use Rattle.field16.proofs.Entries.{elements}
 use Rattle.field16.proofs.Digits.{number-digits}
+use Rattle.symbols.specs.Code.{checksOf}
 use Rattle.polish.specs.Frame.{symbolsIn, crcOfBody, framed, bodyIn, checksIn}
 
 pub three-bytes : (n : ℕ) → digits 8 3 n ≡ n / 0x10000 % 256 ∷ n / 0x100 % 256 ∷ n % 256 ∷ []

@@ -10,12 +10,12 @@ use lib.Bits.{bitXor, xor-lt, xor-shr}
 use lib.Dec.{ltb}
 use lib.ListN.{length, getD}
 use lib.Seq.{take-at}
-use Rattle.symbols.specs.Code.{Codeword, checksOf, Checked}
 use Rattle.field16.specs.Digits.{digits, number}
-use Rattle.symbols.proofs.Linear.{checked-number}
 use Rattle.field16.proofs.Digits.{length-digits, symbols-digits, number-digits}
-use Rattle.symbols.proofs.Encoder.{encoded}
 use Rattle.field16.proofs.Words.{xor-twice}
+use Rattle.symbols.specs.Code.{Codeword, checksOf, Checked}
+use Rattle.symbols.proofs.Linear.{checked-number}
+use Rattle.symbols.proofs.Encoder.{encoded}
 use Rattle.polish.specs.Frame.{key, plainOf, bodyOf, timeIn, symbolsIn, crcOfBody, framed, bodyIn, checksIn, crcIn, Fixed, wordOf, mendedTo}
 use Rattle.polish.specs.Write.{fitting}
 use Rattle.polish.specs.declared.Time.{Time}

@@ -5,9 +5,9 @@ use mathlib.Core.Path.{_≡_}
 use Prim.Native.Nat.{ℕ, _+_, _*_, _/_, _%_, _^_}
 use lib.Bits.{bitXor}
 use lib.ListN.{getD, take, drop}
+use Rattle.field16.specs.Digits.{digits, number}
 use Rattle.symbols.specs.Code.{checksOf}
 use Rattle.polish.specs.Crc.{crcOf}
-use Rattle.field16.specs.Digits.{digits, number}
 use Rattle.polish.specs.declared.Time.{Time}
 
 -- what bytes 4 to 8 are scrambled with: the hex decides, not the letters beside it (002, 4)

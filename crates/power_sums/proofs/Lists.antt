@@ -1,9 +1,8 @@
--- Power sums as lists: a list of known length is its elements, what is made of symbols are symbols, and a place that is taken away from a word is
--- taken away from its power sums.
+-- Power sums as lists: they are symbols, a place that is taken away from a word is taken away from its power sums, and they tell its values.
 -- Assumes nothing.
 use mathlib.Core.Bool.{Bool, true, false, cond}
 use mathlib.Core.List.{List, [], _∷_}
-use mathlib.Core.Path.{_≡_, refl, sym, ap, ap₂, _∙_, subst}
+use mathlib.Core.Path.{_≡_, refl, ap, ap₂, _∙_}
 use Prim.Native.Nat.{ℕ, zero, suc, _+_, _≤_, _<_}
 use native.Mathlib.Omega.{arith}
 use lib.Bits.{bitXor, xor-lt}
@@ -11,25 +10,9 @@ use lib.Dec.{eqb}
 use lib.ListN.{length, getD}
 use Rattle.field16.specs.Words.{Symbols, aTo, at}
 use Rattle.field16.specs.Field.{times, power, inverseOf}
-use Rattle.power_sums.specs.Sums.{sumsFrom, sixSums, takeAway, thirdOf}
 use Rattle.field16.proofs.Elements.{times-lt}
 use Rattle.field16.proofs.Words.{xor-twice, at-lt, away, next-sum}
-
--- the k elements of s from the i-th on, written out
-abbrev pub elements : ℕ → ℕ → List ℕ → List ℕ
-elements i zero s = []
-elements i (suc k) s = getD s i 0 ∷ elements (suc i) k s
-
-rest : (k i y : ℕ) (ys : List ℕ) → elements (suc i) k (y ∷ ys) ≡ elements i k ys
-rest zero i y ys = refl
-rest (suc k) i y ys = ap (λ (l : List ℕ). getD ys i 0 ∷ l) (rest k (suc i) y ys)
-
-whole : (s : List ℕ) → s ≡ elements 0 (length s) s
-whole [] = refl
-whole (y ∷ ys) = ap (λ (l : List ℕ). y ∷ l) (whole ys ∙ sym (rest (length ys) 0 y ys))
-
-pub written-out : (s : List ℕ) (k : ℕ) → length s ≡ k → s ≡ elements 0 k s
-written-out s k e = subst (λ (n : ℕ). s ≡ elements 0 n s) e (whole s)
+use Rattle.power_sums.specs.Sums.{sumsFrom, sixSums, takeAway, thirdOf}
 
 pub symbols-getD : (s : List ℕ) (i : ℕ) → Symbols s → getD s i 0 < 16
 symbols-getD [] i h = omega arith

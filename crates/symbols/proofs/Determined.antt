@@ -5,10 +5,10 @@ use mathlib.Core.Path.{_≡_, refl, sym, ap, _∙_}
 use Prim.Native.Nat.{ℕ}
 use Rattle.refusal.proofs.Determined.{Determined}
 use Rattle.field16.specs.Digits.{digits}
+use Rattle.field16.proofs.Digits.{same-number}
 use Rattle.symbols.specs.Mending.{Mends}
 use Rattle.symbols.specs.declared.Mended.{Mended}
 use Rattle.symbols.specs.declared.Mended.the-variants.{Nearest, Farther}
-use Rattle.field16.proofs.Digits.{same-number}
 use Rattle.symbols.proofs.Unique.{unique}
 use Rattle.symbols.proofs.checks.Reads as checks
 use Rattle.symbols.proofs.mend.Reads as mend

@@ -12,11 +12,11 @@ use Rattle.block.proofs.Xor.{xor-assoc}
 use Rattle.block.proofs.Below.{at-below}
 use Rattle.block.proofs.Strings.{length-xors}
 use Rattle.field16.specs.Words.{Symbols, aTo, at, weight}
-use Rattle.symbols.specs.Code.{Codeword, scaled, generator, encodeStep, encodeFrom, checksOf}
 use Rattle.field16.specs.Field.{times, power}
 use Rattle.field16.proofs.Elements.{times-lt, times-comm, times-assoc, times-xor, xor-times, times-one, times-zero, zero-times, power-lt}
 use Rattle.field16.proofs.Words.{symbols-xors, at-xors, at-lt, times-swap, at-append}
 use Rattle.field16.proofs.Distance.{at-weightless, at-first-zero}
+use Rattle.symbols.specs.Code.{Codeword, scaled, generator, encodeStep, encodeFrom, checksOf}
 
 at-scaled : (X y : ℕ) (w : List ℕ) → at X (scaled y w) ≡ times y (at X w)
 unfolding at

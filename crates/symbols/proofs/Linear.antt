@@ -16,13 +16,13 @@ use Rattle.block.proofs.Xor.{on-bit}
 use Rattle.block.proofs.Below.{at-below, both-left, both-right}
 use Rattle.block.proofs.Strings.{length-xors}
 use Rattle.field16.specs.Words.{Symbols, aTo, weight}
-use Rattle.symbols.specs.Code.{Codeword, differing, encodeFrom, checksOf, Checked}
 use Rattle.field16.specs.Digits.{digits, number}
 use Rattle.field16.proofs.Digits.{Below, below-symbols, length-digits, symbols-digits, digits-low, number-lt, digits-number, digits-xor}
 use Rattle.field16.proofs.Distance.{weight-nil, weight-most}
+use Rattle.field16.proofs.Words.{symbols-xors, at-xors}
+use Rattle.symbols.specs.Code.{Codeword, differing, encodeFrom, checksOf, Checked}
 use Rattle.symbols.proofs.Encoder.{encoded, length-checks, symbols-checks}
 use Rattle.symbols.proofs.Unique.{differing-same, differing-weight, apart}
-use Rattle.field16.proofs.Words.{symbols-xors, at-xors}
 
 xors-append : (a b c d : List ℕ) → length a ≡ length c → xors (a ++ b) (c ++ d) ≡ xors a c ++ xors b d
 unfolding xors

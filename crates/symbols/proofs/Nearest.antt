@@ -12,17 +12,17 @@ use Rattle.block.specs.Bits.{xors}
 use Rattle.block.proofs.Xor.{xor-cancel, xor-eq}
 use Rattle.block.proofs.Strings.{length-xors}
 use Rattle.field16.specs.Words.{Symbols, aTo, at, weight}
-use Rattle.symbols.specs.Code.{Codeword, differing, Near, checksOf}
 use Rattle.field16.specs.Digits.{digits}
 use Rattle.field16.specs.Field.{times, power}
-use Rattle.power_sums.specs.Sums.{sixSums}
-use Rattle.wrong_symbols.specs.Explained.{Mistakes, Explains}
 use Rattle.field16.proofs.Digits.{length-digits, symbols-digits, digits-low, digits-append, digits-xor}
 use Rattle.field16.proofs.Words.{at-append, symbols-xors, at-xors}
+use Rattle.power_sums.specs.Sums.{sixSums}
+use Rattle.power_sums.proofs.Lists.{sums-same, six-at}
+use Rattle.wrong_symbols.specs.Explained.{Mistakes, Explains}
+use Rattle.wrong_symbols.specs.declared.Explained.the-variants.{TooMany}
+use Rattle.symbols.specs.Code.{Codeword, differing, Near, checksOf}
 use Rattle.symbols.proofs.Encoder.{encoded, length-checks}
 use Rattle.symbols.proofs.Unique.{differing-self, differing-weight}
-use Rattle.wrong_symbols.specs.declared.Explained.the-variants.{TooMany}
-use Rattle.power_sums.proofs.Lists.{sums-same, six-at}
 
 xors-cancel : (u v : List ℕ) → length u ≡ length v → xors u (xors u v) ≡ v
 unfolding xors

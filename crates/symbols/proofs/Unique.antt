@@ -12,8 +12,8 @@ use lib.ListN.{length}
 use Rattle.block.specs.Bits.{xors}
 use Rattle.block.proofs.Xor.{xor-eq}
 use Rattle.field16.specs.Words.{weight}
-use Rattle.symbols.specs.Code.{Codeword, differing, Near}
 use Rattle.field16.proofs.Distance.{weight-nil, weight-none, weight-one, positive, same-word}
+use Rattle.symbols.specs.Code.{Codeword, differing, Near}
 
 -- two words go on with the same symbol or with different ones
 data Goes (b c : ℕ) (bs cs : List ℕ) : Type 0 where

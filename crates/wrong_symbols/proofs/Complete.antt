@@ -11,13 +11,13 @@ use lib.Dec.{eqb}
 use lib.ListN.{length}
 use Rattle.field16.specs.Words.{Symbols, aTo, at, weight}
 use Rattle.field16.specs.Field.{times, power, inverseOf}
-use Rattle.power_sums.specs.Sums.{sumsFrom, sixSums, takeAway, goesOn, thirdOf, fits}
-use Rattle.wrong_symbols.specs.Search.{Second}
 use Rattle.field16.proofs.Elements.{times-comm, times-assoc, times-one, power-lt, times-inverse}
 use Rattle.field16.proofs.Words.{away, length-away, symbols-away, next-sum, at-lt}
 use Rattle.field16.proofs.Distance.{positive, power-pos, at-weightless, vanishing}
-use Rattle.wrong_symbols.proofs.Places.{Pick, none, place, pick, symbolAt, weight-le, alive-before, alive-other}
+use Rattle.power_sums.specs.Sums.{sumsFrom, sixSums, takeAway, goesOn, thirdOf, fits}
 use Rattle.power_sums.proofs.Lists.{sums-away}
+use Rattle.wrong_symbols.specs.Search.{Second}
+use Rattle.wrong_symbols.proofs.Places.{Pick, none, place, pick, symbolAt, weight-le, alive-before, alive-other}
 
 -- the powers of a place
 abbrev powers : ℕ → ℕ → List ℕ

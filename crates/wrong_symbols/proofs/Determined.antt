@@ -7,13 +7,13 @@ use Prim.Native.Nat.{ℕ}
 use native.Mathlib.Omega.{arith}
 use Rattle.refusal.proofs.Determined.{Determined}
 use Rattle.field16.specs.Digits.{digits}
+use Rattle.field16.proofs.Digits.{length-digits, symbols-digits, same-number}
+use Rattle.field16.proofs.Distance.{weight-xors, same-word}
 use Rattle.power_sums.specs.Sums.{sixSums}
+use Rattle.power_sums.proofs.Lists.{six-at}
 use Rattle.wrong_symbols.specs.Explained.{Mistakes, Explains}
 use Rattle.wrong_symbols.specs.declared.Explained.{Explained}
 use Rattle.wrong_symbols.specs.declared.Explained.the-variants.{Wrong, TooMany}
-use Rattle.field16.proofs.Digits.{length-digits, symbols-digits, same-number}
-use Rattle.field16.proofs.Distance.{weight-xors, same-word}
-use Rattle.power_sums.proofs.Lists.{six-at}
 use Rattle.wrong_symbols.proofs.explain.Reads as explain
 
 same-mistakes : (s : List ℕ) (m n : ℕ) → Mistakes s m → Mistakes s n → m ≡ n

@@ -10,11 +10,11 @@ use lib.Dec.{eqb}
 use lib.ListN.{length, getD}
 use Rattle.block.proofs.Xor.{xor-assoc, xor-swap, xor-cancel}
 use Rattle.field16.specs.Field.{times}
+use Rattle.field16.proofs.Elements.{times-comm, times-assoc, times-xor, xor-times, times-zero}
+use Rattle.field16.proofs.Entries.{written-out}
+use Rattle.field16.proofs.Words.{xor-twice, times-swap}
 use Rattle.power_sums.specs.Sums.{takeAway, goesOn, thirdOf, apart, fits}
 use Rattle.wrong_symbols.specs.Search.{minorOf, minorsOf, twoPlaces, mayBe}
-use Rattle.field16.proofs.Elements.{times-comm, times-assoc, times-xor, xor-times, times-zero}
-use Rattle.power_sums.proofs.Lists.{written-out}
-use Rattle.field16.proofs.Words.{xor-twice, times-swap}
 
 -- what goes on by z after y was taken away follows the rule with y + z and y z
 rule : (y z a b c : ℕ) → bitXor c (times y b) ≡ times z (bitXor b (times y a)) → c ≡ bitXor (times (bitXor y z) b) (times (times y z) a)

@@ -8,9 +8,9 @@ use borrow.Author.Tests.{eqb-true, eqb-false, not-true}
 use native.Mathlib.Omega.{arith}
 use lib.Dec.{eqb}
 use lib.ListN.{getD}
+use Rattle.field16.proofs.Distance.{positive}
 use Rattle.power_sums.specs.Sums.{goesOn, thirdOf, apart, fits}
 use Rattle.wrong_symbols.specs.Search.{Pair, Found}
-use Rattle.field16.proofs.Distance.{positive}
 use Rattle.wrong_symbols.proofs.Complete.{true-false}
 
 -- what is known where four numbers fit

@@ -10,11 +10,11 @@ use Rattle.block.specs.Bits.{xors}
 use Rattle.field16.specs.Words.{aTo, at, weight}
 use Rattle.field16.specs.Digits.{digits}
 use Rattle.field16.specs.Field.{times, power}
-use Rattle.wrong_symbols.specs.Search.{Single}
 use Rattle.field16.proofs.Digits.{length-digits, digits-append, digits-xor}
 use Rattle.field16.proofs.Distance.{weight-nil, weight-none, weight-one, at-weightless, weight-most}
 use Rattle.field16.proofs.Elements.{times-comm, times-one, zero-times}
 use Rattle.field16.proofs.Words.{at-append, power-times}
+use Rattle.wrong_symbols.specs.Search.{Single}
 
 power-of-one : (n : ℕ) → power 1 n ≡ 1
 unfolding power

@@ -14,13 +14,13 @@ use Rattle.block.proofs.Strings.{length-xors}
 use Rattle.field16.specs.Words.{Symbols, aTo, at, weight}
 use Rattle.field16.specs.Digits.{digits}
 use Rattle.field16.specs.Field.{times, power}
-use Rattle.power_sums.specs.Sums.{sumsFrom, sixSums, takeAway, goesOn, thirdOf, apart, fits}
-use Rattle.wrong_symbols.specs.Search.{Single, lastOf, middleOf, firstOf, Found}
-use Rattle.wrong_symbols.specs.Explained.{Mistakes}
 use Rattle.field16.proofs.Digits.{length-digits, digits-xor}
 use Rattle.field16.proofs.Words.{away, at-xors, xor-twice}
 use Rattle.field16.proofs.Distance.{weight-xors}
+use Rattle.power_sums.specs.Sums.{sumsFrom, sixSums, takeAway, goesOn, thirdOf, apart, fits}
 use Rattle.power_sums.proofs.Lists.{symbols-getD, symbols-takeAway, third-lt, sums-away, length-takeAway, length-sums}
+use Rattle.wrong_symbols.specs.Search.{Single, lastOf, middleOf, firstOf, Found}
+use Rattle.wrong_symbols.specs.Explained.{Mistakes}
 use Rattle.wrong_symbols.proofs.Filter.{goes-on}
 use Rattle.wrong_symbols.proofs.Terms.{term-gone, value-away, once, twice}
 use Rattle.wrong_symbols.proofs.Fitting.{fitting, third-pos}

@@ -8,10 +8,10 @@ use lib.Bits.{bitXor, xor-comm, xor-lt}
 use lib.ListN.{getD}
 use Rattle.block.proofs.Xor.{xor-eq}
 use Rattle.field16.specs.Field.{times, power}
-use Rattle.wrong_symbols.specs.Search.{lastOf, middleOf, firstOf}
 use Rattle.field16.proofs.Elements.{times-lt, times-comm, times-assoc}
 use Rattle.field16.proofs.Words.{xor-twice}
 use Rattle.field16.proofs.Distance.{positive, times-pos}
+use Rattle.wrong_symbols.specs.Search.{lastOf, middleOf, firstOf}
 use Rattle.wrong_symbols.proofs.Terms.{over-times, power-one}
 use Rattle.wrong_symbols.proofs.Fitting.{Fitting, empty, third}
 

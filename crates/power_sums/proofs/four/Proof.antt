@@ -3,8 +3,8 @@
 use borrow.Author.Needs.{needs}
 use mathlib.Core.Path.{sym, ap}
 use native.Mathlib.Omega.{arith}
+use Rattle.field16.proofs.Entries.{written-out}
 use Rattle.power_sums.specs.Sums.{takeAway}
-use Rattle.power_sums.proofs.Lists.{written-out}
 use Rattle.power_sums.proofs.four.Statement.{statement}
 use Rattle.power_sums.proofs.four.Tie as tie
 

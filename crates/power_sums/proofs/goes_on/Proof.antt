@@ -10,8 +10,8 @@ use native.Mathlib.Omega.{arith}
 use lib.Dec.{eqb}
 use lib.ListN.{length, getD}
 use Rattle.field16.specs.Field.{times}
+use Rattle.field16.proofs.Entries.{written-out}
 use Rattle.power_sums.specs.Sums.{goesOn}
-use Rattle.power_sums.proofs.Lists.{written-out}
 use Rattle.power_sums.proofs.goes_on.Statement.{statement}
 use Rattle.power_sums.proofs.goes_on.Tie as tie
 

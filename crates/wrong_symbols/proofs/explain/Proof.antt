@@ -5,11 +5,11 @@ use mathlib.Core.List.{List}
 use mathlib.Core.Path.{sym, _∙_, subst}
 use Prim.Native.Nat.{ℕ}
 use Rattle.field16.specs.Digits.{digits}
+use Rattle.field16.proofs.Distance.{positive}
 use Rattle.power_sums.specs.Sums.{takeAway}
+use Rattle.power_sums.proofs.Lists.{symbols-sums}
 use Rattle.wrong_symbols.specs.Explained.{Mistakes}
 use Rattle.wrong_symbols.specs.Search.{Second}
-use Rattle.field16.proofs.Distance.{positive}
-use Rattle.power_sums.proofs.Lists.{symbols-sums}
 use Rattle.wrong_symbols.proofs.Complete.{pair-missed}
 use Rattle.wrong_symbols.proofs.Fitting.{found}
 use Rattle.wrong_symbols.proofs.explain.Statement.{statement}

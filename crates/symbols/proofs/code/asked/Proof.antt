@@ -5,8 +5,8 @@ use mathlib.Core.Path.{subst}
 use Prim.Native.Nat.{ℕ, _*_, _/_, _%_, _^_, _<_}
 use native.Mathlib.Omega.{arith}
 use lib.Bits.{bitXor}
-use Rattle.symbols.specs.Code.{Checked}
 use Rattle.field16.proofs.Elements.{bit-times}
+use Rattle.symbols.specs.Code.{Checked}
 use Rattle.symbols.proofs.Linear.{checked-xor, checked-bit, moved-bits}
 use Rattle.symbols.proofs.code.asked.Statement.{statement}
 use Rattle.symbols.proofs.code.asked.Tie as tie

@@ -6,10 +6,10 @@ use mathlib.Core.List.{List}
 use Prim.Native.Nat.{ℕ, _<_}
 use native.Mathlib.Omega.{arith}
 use Rattle.field16.specs.Field.{times}
-use Rattle.power_sums.specs.Sums.{thirdOf}
 use Rattle.field16.proofs.Elements.{times-lt}
-use Rattle.wrong_symbols.proofs.Sound.{third-some, mistaken}
+use Rattle.power_sums.specs.Sums.{thirdOf}
 use Rattle.power_sums.proofs.Lists.{third-lt}
+use Rattle.wrong_symbols.proofs.Sound.{third-some, mistaken}
 use Rattle.wrong_symbols.proofs.mending.mistakes.Statement.{statement}
 use Rattle.wrong_symbols.proofs.mending.mistakes.Tie as tie
 
