@@ -21,7 +21,7 @@ use Rattle.receiver.specs.States.{properOf}
 use Rattle.receiver.specs.Steps.{Step, stepOf}
 use Rattle.receiver.specs.Runs.{runFrom, runOf}
 use Rattle.receiver.specs.History.{bitsBefore}
-use Rattle.receiver.specs.Changes.{sameLock, toChange, upTo, stretchFrom, refusedStretch, stretchOf, runToChange}
+use Rattle.receiver.specs.Changes.{sameLock, toChange, upTo, withFed, stretchFrom, refusedStretch, stretchOf, runToChange}
 use Rattle.receiver.proofs.Together.{from-bits, run-is}
 use Rattle.receiver.proofs.Running.{same-lock}
 
@@ -38,14 +38,14 @@ up-to-length : (stop : Bool) (s : State) (bs : List ℕ) → length (upTo stop s
 up-to-length true s bs = change-length s bs
 up-to-length false s bs = omega arith
 
-change-first : (s : State) (bs : List ℕ) → take (length (toChange s bs)) bs ≡ toChange s bs
+pub change-first : (s : State) (bs : List ℕ) → take (length (toChange s bs)) bs ≡ toChange s bs
 unfolding toChange
 change-first s [] = refl
 change-first s (b ∷ bs) =
     let t : State = stepOf s b .next in
     cond-elim (λ (l : List ℕ). take (length (b ∷ l)) (b ∷ bs) ≡ b ∷ l) (sameLock (s .mode) (t .mode)) (λ _. ap (λ (l : List ℕ). b ∷ l) (change-first t bs)) (λ _. refl)
 
-change-bits : (s : State) (bs : List ℕ) → Bits bs → Bits (toChange s bs)
+pub change-bits : (s : State) (bs : List ℕ) → Bits bs → Bits (toChange s bs)
 change-bits s bs h = rw (change-first s bs) at (bits-take (length (toChange s bs)) bs h)
 
 -- ---- the three answers
@@ -81,7 +81,7 @@ all-run s bs = by (ltb 65536 (length bs)) (properOf s) refl refl
 -- ---- lock
 
 -- what was locked the same way goes on the same way
-same-on : (a b c : ℕ) → sameLock a b ≡ true → sameLock a c ≡ sameLock b c
+pub same-on : (a b c : ℕ) → sameLock a b ≡ true → sameLock a c ≡ sameLock b c
 unfolding sameLock
 same-on a b c = by (eqb a locked) (eqb b locked) (eqb c locked)
   where
@@ -180,9 +180,12 @@ first-run s bs =
     rw (all-before (toChange s bs) 0 0 0 s e, change-first s bs)
     (sym (run-is s (toChange s bs) (omega (arith, change-length s bs)) p))))
 
--- bits within the limit, given to a proper state, are not refused, and where there is one at least one is fed
-pub bits-taken : (s : State) (bs : List ℕ) → properOf s ≡ true → Bits bs → length bs ≤ 65536 → runToChange s bs .ran .counts .refusal ≡ 0
-bits-taken s bs p h limit = rw (stretch-is true s bs limit p) (from-bits (toChange s bs) 0 0 0 s (change-bits s bs h) .0)
+-- bits within the limit, given to a proper state, are not refused: those up to the change are fed, and at least one is
+pub bits-taken : (s : State) (bs : List ℕ) → properOf s ≡ true → Bits bs → length bs ≤ 65536
+    → runToChange s bs ≡ withFed (runFrom (toChange s bs) 0 0 0 s) (length (toChange s bs))
+bits-taken s bs p h limit =
+    let taken = from-bits (toChange s bs) 0 0 0 s (change-bits s bs h) in
+    rw (stretch-is true s bs limit p, zero-add, all-before (toChange s bs) 0 0 0 s (taken .0))
 
 pub one-fed : (s : State) (b : ℕ) (bs : List ℕ) → properOf s ≡ true → b < 2 → length (b ∷ bs) ≤ 65536 → 1 ≤ runToChange s (b ∷ bs) .fed
 unfolding toChange bitsBefore

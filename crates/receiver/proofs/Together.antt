@@ -1,6 +1,6 @@
 -- Runs one after the other are one run: the steps go on from the state reached, and the counts add up.
 -- Assumes nothing.
-use Prim.Native.Nat.{ℕ, _+_, _≤_}
+use Prim.Native.Nat.{ℕ, _+_, _≤_, _<_}
 use native.Mathlib.Nat.{add-assoc, add-zero, zero-add}
 use native.Mathlib.Omega.{arith}
 use mathlib.Core.Path.{_≡_, refl, sym, ap, _∙_}
@@ -17,7 +17,7 @@ use Rattle.receiver.specs.declared.Ran.{Ran}
 use Rattle.receiver.specs.declared.State.{State}
 use Rattle.receiver.specs.States.{properOf}
 use Rattle.receiver.specs.Steps.{Step, stepOf}
-use Rattle.receiver.specs.Runs.{countsOf, runFrom, runOf, fedOf}
+use Rattle.receiver.specs.Runs.{countsOf, ended, runFrom, runOf, fedOf}
 use Rattle.receiver.proofs.StaysProper.{Proper, run-proper}
 
 -- one fed bit answers as a run of that bit alone
@@ -64,6 +64,14 @@ from-append (x ∷ xs) ys good bad passed s h = rw (lt-ltb x 2 (h .0)) (from-app
 
 onwards-counted : (ys : List ℕ) (r : Ran) → onwards ys r ≡ counted (r .counts .good) (r .counts .bad) (r .counts .passed) (runFrom ys 0 0 0 (r .state))
 onwards-counted ys r = simp add-zero at (from-counted ys (r .counts .good) (r .counts .bad) (r .counts .passed) 0 0 0 (r .state))
+
+-- a run of bits is the step of the first and then the run of the others, with the counts of both
+pub from-next : (b : ℕ) (bs : List ℕ) (s : State) → b < 2
+    → runFrom (b ∷ bs) 0 0 0 s ≡ counted (stepOf s b .good) (stepOf s b .bad) (stepOf s b .passed) (runFrom bs 0 0 0 (stepOf s b .next))
+unfolding runFrom
+from-next b bs s h =
+    let t : Step = stepOf s b in
+    rw (lt-ltb b 2 h) (simp zero-add (onwards-counted bs (ended 0 (t .good) (t .bad) (t .passed) (t .next))))
 
 -- a run within the limit, from a proper state
 pub run-is : (s : State) (bs : List ℕ) → length bs ≤ 65536 → properOf s ≡ true → runOf s bs ≡ runFrom bs 0 0 0 s

@@ -1,51 +1,77 @@
--- `feed_all` is safe and ends: each turn feeds at least one bit, and none past the end.
+-- `feed_all` meets its contract. The loop's invariant: what is kept now, with the bits that are left, comes to what is kept after
+-- all of them. Each turn feeds at least one bit.
 -- Assumes nothing.
 use borrow.Author.Needs.{needs}
-use mathlib.Core.Logic.{⊎-elim}
-use Prim.Native.Nat.{_≤_, _-_}
+use mathlib.Core.Path.{_≡_, refl, _∙_}
+use Prim.Native.Nat.{_-_, _≤_}
 use native.Mathlib.Omega.{arith}
-use lib.ListN.{length}
+use lib.ListN.{length, drop, length-drop, drop-of-length-le}
+use Rattle.block.proofs.Strings.{bits-drop, rest-whole}
+use Rattle.receiver.proofs.StaysProper.{Proper}
+use Rattle.receive.specs.Totals.{keptAfter}
+use Rattle.receive.proofs.Hearing.{turn-fed, turn-proper, turn-kept}
 use Rattle.receive.proofs.feed_all.Statement.{statement}
 use Rattle.receive.proofs.feed_all.Tie as tie
 
 abbrev Inv-loop : tie.InvT-loop
-Inv-loop bits kept₀ i₀ kept i = i ≤ length bits
+Inv-loop bits more kept₀ sound₀ i₀ kept sound i =
+    (i ≤ length bits) × Proper (kept .state) × (keptAfter kept (drop i bits) ≡ keptAfter kept₀ bits)
 
 abbrev μ-loop : tie.MeasureT-loop
-μ-loop bits kept₀ i₀ kept i = length bits - i
+μ-loop bits more kept₀ sound₀ i₀ kept sound i = length bits - i
 
 loop-holds : tie.Need-loop-holds Inv-loop μ-loop
-loop-holds c = omega arith
+loop-holds c = (omega arith, c .before .pre .0, refl)
 
-due-requires : tie.Need-due-requires Inv-loop μ-loop
-due-requires c κs = tt
+sub-hear : tie.Need-sub-hear Inv-loop μ-loop
+sub-hear c = omega arith
 
-sub-if1 : tie.Need-sub-if1 Inv-loop μ-loop
-sub-if1 c = omega arith
+part-hear-start : tie.Need-part-hear-start Inv-loop μ-loop
+part-hear-start c = omega arith
 
-add-e : tie.Need-add-e Inv-loop μ-loop
-add-e c = omega arith
+part-hear-end : tie.Need-part-hear-end Inv-loop μ-loop
+part-hear-end c = omega arith
 
-sub-feed : tie.Need-sub-feed Inv-loop μ-loop
-sub-feed c = ⊎-elim (λ w. omega arith) (λ w. omega arith) (c .before .if1 .came)
+hear-requires : tie.Need-hear-requires Inv-loop μ-loop
+hear-requires c κs =
+    let at = c .before .before in
+    let start = at .before .before in
+    let bits = start .args .bits .now in
+    rw (rest-whole bits (at .loop .i)) (
+      at .loop .inv .1 .proper,
+      bits-drop (at .loop .i) bits (start .pre .1),
+      omega (arith, length-drop (at .loop .i) bits),
+      omega (arith, length-drop (at .loop .i) bits),
+    )
 
-part-feed-start : tie.Need-part-feed-start Inv-loop μ-loop
-part-feed-start c = ⊎-elim (λ w. omega arith) (λ w. omega arith) (c .before .if1 .came)
+say-requires : tie.Need-say-requires Inv-loop μ-loop
+say-requires c κs = search needs
 
-part-feed-end : tie.Need-part-feed-end Inv-loop μ-loop
-part-feed-end c = ⊎-elim (λ w. omega arith) (λ w. omega arith) (c .before .if1 .came)
-
-feed-requires : tie.Need-feed-requires Inv-loop μ-loop
-feed-requires c κs = tt
+add-i : tie.Need-add-i Inv-loop μ-loop
+add-i c =
+    let at = c .before .before .before .before .before .before in
+    omega (arith, turn-fed (at .loop .kept) (at .before .before .args .bits .now) (at .loop .i) _ (c .before .before .before .hear .ensures) (c .before .before .before .before .before .loop-test .taken))
 
 loop-less : tie.Need-loop-less Inv-loop μ-loop
-loop-less c = ⊎-elim (λ w. omega arith) (λ w. omega arith) (c .before .before .before .if1 .came)
+loop-less c =
+    let at = c .before .before .before .before .before .before in
+    omega (arith, turn-fed (at .loop .kept) (at .before .before .args .bits .now) (at .loop .i) _ (c .before .before .before .hear .ensures) (c .before .before .before .before .before .loop-test .taken))
 
 loop-again : tie.Need-loop-again Inv-loop μ-loop
-loop-again c = ⊎-elim (λ w. omega arith) (λ w. omega arith) (c .before .before .before .if1 .came)
+loop-again c =
+    let at = c .before .before .before .before .before .before in
+    let start = at .before .before in
+    let bits = start .args .bits .now in
+    let heard = c .before .before .before .hear in
+    let more = c .before .before .before .before .before .loop-test .taken in (
+      turn-fed (at .loop .kept) bits (at .loop .i) (heard .result) (heard .ensures) more .1,
+      turn-proper (at .loop .kept) bits (at .loop .i) (heard .result) (heard .ensures) more (start .pre .1) (at .loop .inv .1),
+      turn-kept (at .loop .kept) bits (at .loop .i) (heard .result) (heard .ensures) more ∙ at .loop .inv .2,
+    )
 
 returns : tie.Need-returns Inv-loop μ-loop
-returns c = tt
+unfolding keptAfter
+returns c = rw (drop-of-length-le _ (c .loop-test .left)) at (c .before .loop .inv .2)
 
 pub feed-all-spec : {M : Type 1} → statement M
 feed-all-spec =
@@ -54,13 +80,12 @@ feed-all-spec =
     Inv-loop
     μ-loop
     loop-holds
-    due-requires
-    sub-if1
-    add-e
-    sub-feed
-    part-feed-start
-    part-feed-end
-    feed-requires
+    sub-hear
+    part-hear-start
+    part-hear-end
+    hear-requires
+    say-requires
+    add-i
     loop-less
     loop-again
     returns)

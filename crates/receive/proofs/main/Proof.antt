@@ -1,24 +1,26 @@
--- `main` is safe and ends. The measure is the number of turns that are left; nothing has to hold from turn to turn.
+-- `main` is safe and ends. The measure is the number of turns that are left; from turn to turn the state stays proper.
 -- Assumes nothing.
 use borrow.Author.Needs.{needs}
 use native.Mathlib.Omega.{arith}
+use Rattle.receiver.proofs.StaysProper.{Proper, fresh-proper}
+use Rattle.receive.proofs.Hearing.{fed-proper}
 use Rattle.receive.proofs.main.Statement.{statement}
 use Rattle.receive.proofs.main.Tie as tie
 
 abbrev Inv-loop : tie.InvT-loop
-Inv-loop kept₀ turns₀ kept turns = Unit {0}
+Inv-loop piece₀ turns₀ piece turns = Proper (piece .kept .state)
 
 abbrev μ-loop : tie.MeasureT-loop
-μ-loop kept₀ turns₀ kept turns = turns
+μ-loop piece₀ turns₀ piece turns = turns
 
 fresh-requires : tie.Need-fresh-requires Inv-loop μ-loop
 fresh-requires c κs = tt
 
 loop-holds : tie.Need-loop-holds Inv-loop μ-loop
-loop-holds c = tt
+loop-holds c = rw (c .fresh .ensures) fresh-proper
 
 read-piece-requires : tie.Need-read-piece-requires Inv-loop μ-loop
-read-piece-requires c κs = tt
+read-piece-requires c κs = c .before .before .before .before .loop .inv
 
 sub-turns : tie.Need-sub-turns Inv-loop μ-loop
 sub-turns c = omega arith
@@ -27,7 +29,7 @@ loop-less : tie.Need-loop-less Inv-loop μ-loop
 loop-less c = omega arith
 
 loop-again : tie.Need-loop-again Inv-loop μ-loop
-loop-again c = tt
+loop-again c = fed-proper (c .read-piece .ensures) (c .before .before .before .before .before .loop .inv)
 
 cast-say-end : tie.Need-cast-say-end Inv-loop μ-loop
 cast-say-end c = search needs
@@ -37,6 +39,9 @@ say-end-requires c κs = tt
 
 returns : tie.Need-returns Inv-loop μ-loop
 returns c = tt
+
+returns-2 : tie.Need-returns-2 Inv-loop μ-loop
+returns-2 c = tt
 
 pub main-spec : {M : Type 1} → statement M
 main-spec =
@@ -52,4 +57,5 @@ main-spec =
     loop-again
     cast-say-end
     say-end-requires
-    returns)
+    returns
+    returns-2)

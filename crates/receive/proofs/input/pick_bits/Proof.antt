@@ -1,26 +1,20 @@
--- `pick_bits` meets its contract. The loop's invariant: no more bits are picked than characters are passed.
+-- `pick_bits` meets its contract. The loop's invariant: what was picked and what is not yet read mean what all of it means.
 -- Assumes nothing.
 use mathlib.Core.Logic.{⊎-elim}
-use mathlib.Core.Path.{_≡_, refl, ap, _∙_}
-use mathlib.Core.List.{List}
-use Prim.Native.Nat.{ℕ, _≤_, _-_}
+use Prim.Native.Nat.{_-_}
 use native.Mathlib.Omega.{arith}
-use lib.ListN.{length, length-set, length-take}
-use Rattle.io.specs.Counts.{Counts}
+use Rattle.receive.proofs.Picking.{Picking, begun, skip, pick, stop, all-read}
 use Rattle.receive.proofs.input.pick_bits.Statement.{statement}
 use Rattle.receive.proofs.input.pick_bits.Tie as tie
 
 abbrev Inv-loop : tie.InvT-loop
-Inv-loop buffer₀ n bits₀ i₀ buffer bits i = (bits ≤ i) × (i ≤ n) × (length buffer ≡ length buffer₀)
+Inv-loop buffer₀ n bits₀ i₀ buffer bits i = Picking buffer₀ buffer n bits i
 
 abbrev μ-loop : tie.MeasureT-loop
 μ-loop buffer₀ n bits₀ i₀ buffer bits i = n - i
 
-counts : (n : ℕ) (xs : List ℕ) → n ≤ length xs → Counts n xs
-counts n xs h = (h, omega (arith, length-take n xs))
-
 loop-holds : tie.Need-loop-holds Inv-loop μ-loop
-loop-holds c = (omega arith, omega arith, refl)
+loop-holds c = begun _ _
 
 slice-read-c : tie.Need-slice-read-c Inv-loop μ-loop
 slice-read-c c = omega arith
@@ -29,13 +23,17 @@ same-length : tie.Need-same-length Inv-loop μ-loop
 same-length c = omega arith
 
 returns : tie.Need-returns Inv-loop μ-loop
-returns c = counts _ _ (omega arith)
+returns c =
+    let at = c .before .before .before .before in
+    stop _ _ _ _ _ (at .before .pre) (at .loop .inv) (c .before .before .before .loop-test .taken) (omega arith) (omega arith) (omega arith)
 
 same-length-2 : tie.Need-same-length-2 Inv-loop μ-loop
 same-length-2 c = omega arith
 
 returns-2 : tie.Need-returns-2 Inv-loop μ-loop
-returns-2 c = counts _ _ (omega arith)
+returns-2 c =
+    let at = c .before .before .before .before .before in
+    stop _ _ _ _ _ (at .before .pre) (at .loop .inv) (c .before .before .before .before .loop-test .taken) (omega arith) (omega arith) (omega arith)
 
 slice-write-buffer : tie.Need-slice-write-buffer Inv-loop μ-loop
 slice-write-buffer c = omega arith
@@ -51,15 +49,18 @@ loop-less c = omega arith
 
 loop-again : tie.Need-loop-again Inv-loop μ-loop
 loop-again c =
-    let kept = c .before .before .before .loop .inv .2 in
-    ⊎-elim (λ w. (omega (arith, w .4), omega arith, ap length (w .3) ∙ simp length-set kept))
-    (λ w. (omega (arith, w .2), omega arith, ap length (w .1) ∙ kept)) (c .if1 .came)
+    let at = c .before .before .before in
+    let taken = c .before .before .loop-test .taken in
+    ⊎-elim (λ w. rw (w .3, w .4) (pick _ _ _ _ _ (at .before .pre) (at .loop .inv) taken (omega (arith, w .1 .left)) (omega (arith, w .2 .left))))
+    (λ w. rw (w .1, w .2) (skip _ _ _ _ _ (at .before .pre) (at .loop .inv) taken (omega (arith, w .0 .left)))) (c .if1 .came)
 
 same-length-3 : tie.Need-same-length-3 Inv-loop μ-loop
 same-length-3 c = omega arith
 
 returns-3 : tie.Need-returns-3 Inv-loop μ-loop
-returns-3 c = counts _ _ (omega arith)
+returns-3 c =
+    let at = c .before in
+    all-read _ _ _ _ _ (at .before .pre) (at .loop .inv) (c .loop-test .left)
 
 pub pick-bits-spec : {M : Type 1} → statement M
 pick-bits-spec =

@@ -1,0 +1,160 @@
+-- Bits heard in parts are kept as if heard at once, what is said of a part is said of the bit that ends it, and the totals of a
+-- part are those of its run.
+-- Assumes nothing.
+use Prim.Native.Nat.{ℕ, _+_, _-_, _≤_, _<_, _^_}
+use native.Mathlib.Nat.{add-assoc, add-zero, mod-lt, mod-eq-of-lt, mod-add-mod}
+use native.Mathlib.Omega.{arith}
+use mathlib.Core.Path.{_≡_, refl, sym, ap, _∙_}
+use mathlib.Core.Bool.{Bool, true, false}
+use mathlib.Core.List.{List, [], _∷_, _++_}
+use lib.ListN.{length, take, drop, length-drop, take-append-drop}
+use lib.Seq.{drop-drop}
+use Rattle.block.specs.Bits.{Bits}
+use Rattle.block.proofs.Strings.{bits-drop, rest-whole}
+use Rattle.receiver.specs.declared.Ran.{Ran}
+use Rattle.receiver.specs.declared.State.{State}
+use Rattle.receiver.specs.Steps.{Step, stepOf}
+use Rattle.receiver.specs.Runs.{runFrom}
+use Rattle.receiver.specs.Changes.{sameLock, toChange}
+use Rattle.receiver.proofs.StaysProper.{Proper, step-proper}
+use Rattle.receiver.proofs.Together.{from-next}
+use Rattle.receiver.proofs.Running.{same-lock}
+use Rattle.receiver.proofs.Changes.{change-length, change-first, change-bits, same-on}
+use Rattle.receive.specs.declared.totals.Heard.{Heard}
+use Rattle.receive.specs.declared.totals.Kept.{Kept}
+use Rattle.receive.specs.declared.totals.Said.the-variants.{Nothing}
+use Rattle.receive.specs.Totals.{total, keptNext, keptAfter, saidAt, saidOf, heardOf, FedOn}
+
+-- ---- parts
+
+pub after-append : (k : Kept) (xs ys : List ℕ) → keptAfter k (xs ++ ys) ≡ keptAfter (keptAfter k xs) ys
+unfolding keptAfter
+after-append k [] ys = refl
+after-append k (x ∷ xs) ys = after-append (keptNext k x) xs ys
+
+-- after the bits up to the change, those behind them
+pub after-change : (k : Kept) (s : State) (bits : List ℕ)
+    → keptAfter (keptAfter k (toChange s bits)) (drop (length (toChange s bits)) bits) ≡ keptAfter k bits
+after-change k s bits =
+    let part : List ℕ = toChange s bits in
+    let rest : List ℕ = drop (length part) bits in
+    let whole : part ++ rest ≡ bits = ap (λ (l : List ℕ). l ++ rest) (sym (change-first s bits)) ∙ take-append-drop (length part) bits in
+    sym (after-append k part rest) ∙ ap (keptAfter k) whole
+
+-- where there is a bit, one is up to the change
+pub change-some : (s : State) (bits : List ℕ) → 0 < length bits → 0 < length (toChange s bits)
+unfolding toChange
+change-some s [] h = absurd (omega arith)
+change-some s (b ∷ bits) h = omega arith
+
+pub after-proper : (k : Kept) (bits : List ℕ) → Bits bits → Proper (k .state) → Proper (keptAfter k bits .state)
+unfolding keptAfter keptNext
+after-proper k [] h p = p
+after-proper k (b ∷ bits) h p = after-proper (keptNext k b) bits (h .1) (step-proper (k .state) b (h .0) p)
+
+pub fed-proper : {start after : Kept} → FedOn start after → Proper (start .state) → Proper (after .state)
+fed-proper {start} f p = rw (f .fed) (after-proper start (f .history) (f .bits) p)
+
+-- ---- what is said
+
+said-same : (a b c n : ℕ) → sameLock a b ≡ true → saidAt a c n ≡ saidAt b c n
+unfolding saidAt
+said-same a b c n e = rw (same-on a b c e)
+
+said-none : (m n : ℕ) → saidAt m m n ≡ Nothing
+unfolding saidAt
+said-none m n = rw (same-lock m)
+
+-- what is said of these bits is said of the last up to the change, by the modes before them and after it
+abbrev Last : Kept → List ℕ → Type 0
+Last k bits =
+    let r : Kept = keptAfter k (toChange (k .state) bits) in
+    saidOf k bits ≡ saidAt (k .state .mode) (r .state .mode) (r .fed)
+
+pub said-last : (k : Kept) (bits : List ℕ) → Last k bits
+unfolding saidOf keptAfter keptNext toChange
+said-last k [] = sym (said-none (k .state .mode) (k .fed))
+said-last k (b ∷ bits) = by (sameLock (k .state .mode) (stepOf (k .state) b .next .mode)) refl (said-last (keptNext k b) bits)
+  where
+    by : (same : Bool) → sameLock (k .state .mode) (stepOf (k .state) b .next .mode) ≡ same → Last (keptNext k b) bits → Last k (b ∷ bits)
+    by true e on = rw e (on ∙ sym (said-same (k .state .mode) (stepOf (k .state) b .next .mode) _ _ e))
+    by false e on = rw e
+
+-- ---- totals
+
+-- what is kept fits the program's numbers
+pub record Fitting (k : Kept) : Type 0 where
+  pub fed : k .fed < 2 ^ 64
+  pub good : k .good < 2 ^ 64
+  pub bad : k .bad < 2 ^ 64
+  pub passed : k .passed < 2 ^ 64
+
+-- the totals with a run of n bits
+abbrev pub totalled : Kept → Ran → ℕ → Kept
+totalled k r n =
+    record {
+      fed = total (k .fed) n;
+      good = total (k .good) (r .counts .good);
+      bad = total (k .bad) (r .counts .bad);
+      passed = total (k .passed) (r .counts .passed);
+      state = r .state;
+    }
+
+total-none : (a : ℕ) → a < 2 ^ 64 → total a 0 ≡ a
+total-none a h = rw (add-zero a) (mod-eq-of-lt h)
+
+total-more : (a b c : ℕ) → total (total a b) c ≡ total a (b + c)
+total-more a b c = mod-add-mod (a + b) (2 ^ 64) c ∙ rw (add-assoc a b c)
+
+next-fits : (k : Kept) (b : ℕ) → Fitting (keptNext k b)
+unfolding keptNext
+next-fits k b =
+    record {
+      fed = mod-lt _ (omega arith);
+      good = mod-lt _ (omega arith);
+      bad = mod-lt _ (omega arith);
+      passed = mod-lt _ (omega arith);
+    }
+
+total-nothing : (k : Kept) → Fitting k → totalled k (runFrom [] 0 0 0 (k .state)) 0 ≡ k
+unfolding runFrom
+total-nothing k f =
+    rw (total-none (k .fed) (f .fed), total-none (k .good) (f .good), total-none (k .bad) (f .bad), total-none (k .passed) (f .passed))
+
+pub after-run : (k : Kept) (bits : List ℕ) → (bits ≡ [] → Fitting k) → Bits bits
+    → keptAfter k bits ≡ totalled k (runFrom bits 0 0 0 (k .state)) (length bits)
+unfolding keptAfter keptNext
+after-run k [] f h = sym (total-nothing k (f refl))
+after-run k (b ∷ bits) f h =
+    let t : Step = stepOf (k .state) b in
+    let r : Ran = runFrom bits 0 0 0 (t .next) in
+    let n : 1 + length bits ≡ length (b ∷ bits) = omega arith in
+    after-run (keptNext k b) bits (λ _. next-fits k b) (h .1)
+    ∙ rw (
+      from-next b bits (k .state) (h .0),
+      total-more (k .fed) 1 (length bits),
+      n,
+      total-more (k .good) (t .good) (r .counts .good),
+      total-more (k .bad) (t .bad) (r .counts .bad),
+      total-more (k .passed) (t .passed) (r .counts .passed),
+    )
+
+-- ---- one turn: the bits from the i-th on are heard up to the change
+
+module _ (k : Kept) (bits : List ℕ) (i : ℕ) (h : Heard) (e : h ≡ heardOf k (take (length bits - i) (drop i bits))) (more : i < length bits) where
+  turn : h ≡ heardOf k (drop i bits)
+  turn = e ∙ ap (heardOf k) (rest-whole bits i)
+
+  pub turn-fed : (0 < h .fed) × (i + h .fed ≤ length bits)
+  unfolding heardOf
+  turn-fed =
+      let n : length (drop i bits) ≡ length bits - i = length-drop i bits in
+      rw turn (change-some (k .state) (drop i bits) (omega arith), omega (arith, change-length (k .state) (drop i bits)))
+
+  pub turn-proper : Bits bits → Proper (k .state) → Proper (h .kept .state)
+  unfolding heardOf
+  turn-proper b p = rw turn (after-proper k (toChange (k .state) (drop i bits)) (change-bits (k .state) (drop i bits) (bits-drop i bits b)) p)
+
+  pub turn-kept : keptAfter (h .kept) (drop (i + h .fed) bits) ≡ keptAfter k (drop i bits)
+  unfolding heardOf
+  turn-kept = rw turn (rw (← drop-drop (length (toChange (k .state) (drop i bits))) i bits) (after-change k (k .state) (drop i bits)))

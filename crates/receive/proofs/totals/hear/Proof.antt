@@ -1,0 +1,67 @@
+-- `hear` meets its contract: the run up to the change is that of its bits, and the totals and what is said follow from it.
+-- Assumes nothing.
+use borrow.Author.Needs.{needs}
+use mathlib.Core.List.{List}
+use mathlib.Core.Path.{ap}
+use Prim.Native.Nat.{ℕ, _<_}
+use native.Mathlib.Omega.{arith}
+use lib.ListN.{length}
+use Rattle.receiver.specs.Changes.{toChange}
+use Rattle.receiver.proofs.Changes.{change-bits, bits-taken}
+use Rattle.receive.specs.Totals.{heardOf}
+use Rattle.receive.proofs.Hearing.{change-some, said-last, after-run}
+use Rattle.receive.proofs.totals.hear.Statement.{statement}
+use Rattle.receive.proofs.totals.hear.Tie as tie
+
+run-to-change-requires : tie.Need-run-to-change-requires
+run-to-change-requires c κs = search needs
+
+wrapping-add-u64-requires : tie.Need-wrapping-add-u64-requires
+wrapping-add-u64-requires c κs = search needs
+
+add-requires : tie.Need-add-requires
+add-requires c κs = search needs
+
+add-requires-2 : tie.Need-add-requires-2
+add-requires-2 c κs = search needs
+
+add-requires-3 : tie.Need-add-requires-3
+add-requires-3 c κs = search needs
+
+said-at-requires : tie.Need-said-at-requires
+said-at-requires c κs = search needs
+
+returns : tie.Need-returns
+unfolding heardOf
+returns c =
+    let adds = c .before .before .before in
+    let ran = adds .before .before .before .before .before in
+    let start = ran .before .before .before in
+    let k = start .args .kept in
+    let bits = start .args .bits .now in
+    let part : List ℕ = toChange (k .state) bits in
+    let some : 0 < length part = change-some (k .state) bits (start .pre .2) in
+    let fed = change-bits (k .state) bits (start .pre .1) in
+    rw (
+      said-last k bits,
+      after-run k part (λ e. absurd (omega (arith, ap length e))) fed,
+      c .said-at .ensures,
+      c .before .add3 .ensures,
+      c .before .before .add2 .ensures,
+      adds .add .ensures,
+      adds .before .wrapping-add-u64 .ensures,
+      ran .run-to-change .ensures,
+      bits-taken (k .state) bits (start .pre .0) (start .pre .1) (start .pre .3),
+    )
+
+pub hear-spec : {M : Type 1} → statement M
+hear-spec =
+    tie.close
+    (tie.spec
+    run-to-change-requires
+    wrapping-add-u64-requires
+    add-requires
+    add-requires-2
+    add-requires-3
+    said-at-requires
+    returns)
