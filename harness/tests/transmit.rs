@@ -4,6 +4,7 @@ use std::ffi::OsString;
 use std::fs;
 use std::path::Path;
 use std::process::{Command, Output};
+use std::time::{Duration, Instant};
 
 use harness::face::Date;
 use harness::feeds::{plain, MINUTE};
@@ -99,6 +100,23 @@ fn as_many_blocks_are_damaged_as_asked() {
     assert!(hundreds.windows(2).all(|pair| pair[0].1 != pair[1].1));
 }
 
+/// A full disk is told once, with the reason, and the feed ends there: a whole one takes seconds.
+#[test]
+fn a_failed_write_is_told() {
+    let Some(program) = transmit() else { return };
+    let full = fs::OpenOptions::new().write(true).open("/dev/full").expect("a full disk");
+    let start = Instant::now();
+    let output = Command::new(&program)
+        .args(["1986-01-01", "12:34", "2", "65535"])
+        .stdout(full)
+        .output()
+        .expect("the generator runs");
+    let took = start.elapsed();
+    let said = String::from_utf8_lossy(&output.stderr).into_owned();
+    assert_eq!(said, "transmit: standard output: No space left on device\n");
+    assert!(took < Duration::from_secs(1), "{took:?}");
+}
+
 #[test]
 fn the_receiver_follows_it() {
     let (Some(program), Some(receiver)) = (transmit(), product()) else { return };
@@ -133,12 +151,13 @@ fn wrong_arguments_are_named() {
             "2012-12-31",
             "1986-01-01-01-01-01-01",
             "x986-01-01",
+            "18ab-01-01",
         ],
         &["", "1234", "24:00", "12:60", "12:3", "1a:00", "12.34"],
         &["", "32", "-33", "x", "-", "1-", "99999999999999999999", "256"],
         &["", "0", "-1", "65536", "x", "5x", "4294967297"],
         &["", "151", "-1", "x", "4294967297"],
-        &["", "-1", "x", "99999999"],
+        &["", "-1", "x", "99999999", "10000000"],
     ];
     for (place, texts) in wrong.iter().enumerate() {
         for text in texts.iter() {

@@ -1,15 +1,19 @@
 // The test generator: writes the bits of a feed, thirty blocks a minute, the time block last and fillers before it.
-mod arguments;
+mod blocks;
 mod chance;
+mod command;
 
-use arguments::asked;
-use chance::drawn;
-use chance::stepped;
+ghost use Prim.Native.Nat.{ℕ};
+ghost use Rattle.transmit.specs.Blocks.{Follows};
+ghost use Rattle.transmit.specs.declared.blocks.Left.{Left};
+use blocks::FILLER;
+use blocks::Left;
+use blocks::after;
+use blocks::block_sent;
+use blocks::word_of;
+use command::asked;
 use record::Record;
 use record::Recorded;
-use record::Worded;
-
-const FILLER: u32 = 0x8000_0000;
 
 // What is asked for: the first minute's record, and how many minutes and damaged blocks.
 pub enum Asked {
@@ -22,93 +26,96 @@ pub enum Asked {
     Nothing,
 }
 
-// What is left to send: blocks, how many of them to damage, and where chance stands.
-struct Left {
-    blocks: u32,
-    damaged: u32,
-    chance: u64,
+// What became of sending: what is left after it, or that standard output takes no more, which was told.
+enum Sent {
+    On(Left),
+    Failed,
 }
 
-// As characters, with the bit at one place exchanged; at 50 there is none.
-fn print(bits: [u8; 50], place: u32) {
-    let mut line = [b'0'; 50];
-    let mut i: usize = 0;
-    while i < 50 {
-        let mut bit = bits[i];
-        if i == place as usize {
-            bit = bit ^ 1;
-        }
-        line[i] = bit | b'0';
+// Tells why, where not all of it could be written.
+fn write(bytes: &[u8]) -> bool {
+    if io::write_all(1, bytes) {
+        return true;
+    }
+    os::fail(b"transmit: standard output");
+    false
+}
+
+fn send_block(left: Left, word: u32) -> Sent
+    ensures { λ r. ⌜ Follows 1 left r ⌝ }
+{
+    let line = block_sent(left, word);
+    if write(&line) {
+        return Sent::On(after(left));
+    }
+    Sent::Failed
+}
+
+fn send_fillers(start: Left) -> Sent
+    ensures { λ r. ⌜ Follows 29 start r ⌝ }
+{
+    let mut left = start;
+    let mut i: u32 = 0;
+    while i < 29 {
+        let Sent::On(next) = send_block(left, FILLER) else {
+            return Sent::Failed;
+        };
+        left = next;
         i += 1;
     }
-    io::write_all(1, &line);
+    Sent::On(left)
 }
 
-// One block of code 0. Of the blocks that are left each is as likely to be damaged as any other.
-fn send_block(left: Left, word: u32) -> Left {
-    let chance = stepped(left.chance);
-    let mut blocks = left.blocks;
-    let mut damaged = left.damaged;
-    let mut place: u32 = 50;
-    if drawn(chance, blocks) < damaged {
-        damaged -= 1;
-        place = drawn(chance / 0x1_0000, 50);
-    }
-    if 0 < blocks {
-        blocks -= 1;
-    }
-    let mut bits = [0u8; 50];
-    block::write_block(0, word, &mut bits);
-    print(bits, place);
-    Left {
-        blocks,
-        damaged,
-        chance,
-    }
-}
-
-fn word_of(record: Record) -> u32 {
-    match record::write_record(record) {
-        Worded::Given(word) => word,
-        Worded::Refused(_) => FILLER,
+// The end of the line, unless sending it failed.
+fn end_line(sent: Sent) -> Sent
+    ensures { λ r. ⌜ ((k : ℕ) (start : Left) → Follows k start sent → Follows k start r) ⌝ }
+{
+    match sent {
+        Sent::On(_) => {
+            if write(b"\n") {
+                return sent;
+            }
+            Sent::Failed
+        }
+        Sent::Failed => Sent::Failed,
     }
 }
 
 // Twenty-nine fillers, the time block, and the end of the line.
-fn send_minute(start: Left, record: Record) -> Left {
-    let mut left = start;
-    let mut i: u32 = 0;
-    while i < 29 {
-        left = send_block(left, FILLER);
-        i += 1;
-    }
-    left = send_block(left, word_of(record));
-    io::write_all(1, b"\n");
-    left
+fn send_minute(start: Left, record: Record) -> Sent
+    ensures { λ r. ⌜ Follows 30 start r ⌝ }
+{
+    let Sent::On(left) = send_fillers(start) else {
+        return Sent::Failed;
+    };
+    end_line(send_block(left, word_of(record)))
 }
 
-// Minute after minute, as long as there is a record for the next.
+fn tell_early_end() {
+    io::write_all(
+        2,
+        b"transmit: the feed ends early: no record tells the next day, which is in week 54\n",
+    );
+}
+
+// Minute after minute, as long as there is a record for the next and standard output takes it.
 fn send(first: Record, minutes: u16, start: Left) {
     let mut record = first;
     let mut left = start;
     let mut k = minutes;
     while 0 < k {
-        left = send_minute(left, record);
+        let Sent::On(then) = send_minute(left, record) else {
+            return;
+        };
+        left = then;
         k -= 1;
-        match calendar::next_minute(record) {
-            Recorded::Given(next) => {
-                record = next;
+        let Recorded::Given(next) = calendar::next_minute(record) else {
+            if 0 < k {
+                tell_early_end();
             }
-            Recorded::Refused(_) => {
-                if 0 < k {
-                    io::write_all(
-                        2,
-                        b"transmit: the feed ends early: no record tells the next day, which is in week 54\n",
-                    );
-                }
-                k = 0;
-            }
-        }
+            return;
+        };
+        record = next;
     }
 }
 

@@ -1,60 +1,47 @@
--- `send_minute` is safe and ends: it counts to 29.
+-- `send_minute` meets its contract: one block after twenty-nine, and a line's end, which changes nothing of what is left.
 -- Assumes nothing.
 use borrow.Author.Needs.{needs}
-use Prim.Native.Nat.{_≤_, _-_}
-use native.Mathlib.Omega.{arith}
+use Rattle.transmit.proofs.Sending.{one-more}
 use Rattle.transmit.proofs.send_minute.Statement.{statement}
 use Rattle.transmit.proofs.send_minute.Tie as tie
 
-abbrev Inv-loop : tie.InvT-loop
-Inv-loop «record» left₀ i₀ t5 left i = i ≤ 29
+send-fillers-requires : tie.Need-send-fillers-requires
+send-fillers-requires c κs = search needs
 
-abbrev μ-loop : tie.MeasureT-loop
-μ-loop «record» left₀ i₀ t5 left i = 29 - i
+enum-known-left : tie.Need-enum-known-left
+enum-known-left c = search needs
 
-loop-holds : tie.Need-loop-holds Inv-loop μ-loop
-loop-holds c = omega arith
+enum-told : tie.Need-enum-told
+enum-told c = search needs
 
-send-block-requires : tie.Need-send-block-requires Inv-loop μ-loop
-send-block-requires c κs = tt
+returns : tie.Need-returns
+returns c = search needs
 
-add-i : tie.Need-add-i Inv-loop μ-loop
-add-i c = omega arith
+word-of-requires : tie.Need-word-of-requires
+word-of-requires c κs = search needs
 
-loop-less : tie.Need-loop-less Inv-loop μ-loop
-loop-less c = omega arith
+send-block-requires : tie.Need-send-block-requires
+send-block-requires c κs = search needs
 
-loop-again : tie.Need-loop-again Inv-loop μ-loop
-loop-again c = omega arith
+end-line-requires : tie.Need-end-line-requires
+end-line-requires c κs = search needs
 
-word-of-requires : tie.Need-word-of-requires Inv-loop μ-loop
-word-of-requires c κs = tt
-
-send-block-requires-2 : tie.Need-send-block-requires-2 Inv-loop μ-loop
-send-block-requires-2 c κs = tt
-
-slice-aggregate-write-all : tie.Need-slice-aggregate-write-all Inv-loop μ-loop
-slice-aggregate-write-all c = search needs
-
-write-all-requires : tie.Need-write-all-requires Inv-loop μ-loop
-write-all-requires c κs = tt
-
-returns : tie.Need-returns Inv-loop μ-loop
-returns c = tt
+returns-2 : tie.Need-returns-2
+returns-2 c =
+    let fillers = c .before .before .before .before .before .before in
+    let start = fillers .before .args .start in
+    let left = rw (c .before .before .before .before .left .given .1) at (fillers .send-fillers .ensures) in
+    c .end-line .ensures 30 start (one-more 29 start left (c .before .send-block .result) (c .before .send-block .ensures))
 
 pub send-minute-spec : {M : Type 1} → statement M
 send-minute-spec =
     tie.close
     (tie.spec
-    Inv-loop
-    μ-loop
-    loop-holds
-    send-block-requires
-    add-i
-    loop-less
-    loop-again
+    send-fillers-requires
+    enum-known-left
+    enum-told
+    returns
     word-of-requires
-    send-block-requires-2
-    slice-aggregate-write-all
-    write-all-requires
-    returns)
+    send-block-requires
+    end-line-requires
+    returns-2)
