@@ -4,7 +4,7 @@ use std::env;
 use std::ffi::OsString;
 use std::fs::File;
 use std::path::{Path, PathBuf};
-use std::process::{Command, Stdio};
+use std::process::{Child, Command, Stdio};
 
 /// The product's program, if `RECEIVE_BIN` names it.
 pub fn product() -> Option<OsString> {
@@ -23,6 +23,14 @@ pub fn output(program: &mut Command, input: &Path) -> String {
     let output = output.unwrap_or_else(|error| panic!("{program:?}: {error}"));
     assert!(output.status.success(), "{program:?}: {}", output.status);
     String::from_utf8(output.stdout).unwrap_or_else(|error| panic!("{program:?}: {error}"))
+}
+
+/// What the started program prints until it ends: its standard output, if that is a pipe, and its standard error.
+pub fn printed(child: Child) -> (String, String) {
+    let output = child.wait_with_output().unwrap_or_else(|error| panic!("waiting: {error}"));
+    assert!(output.status.success(), "{}", output.status);
+    let text = |bytes| String::from_utf8(bytes).unwrap_or_else(|error| panic!("{error}"));
+    (text(output.stdout), text(output.stderr))
 }
 
 /// A file of the project.

@@ -1,16 +1,21 @@
 //! The receiver program: the independent one on what document 01 states, the
 //! product's beside it, and the stored sample.
 
-use std::fmt::Write;
-use std::fs;
+use std::fmt::Write as _;
+use std::fs::{self, File};
+use std::io::Write as _;
+use std::os::fd::OwnedFd;
+use std::os::unix::net::UnixStream;
 use std::path::{Path, PathBuf};
-use std::process::Command;
+use std::process::{Child, Command, Stdio};
+use std::thread::sleep;
+use std::time::Duration;
 
 use harness::face::{CONFIRMED, LOCKED};
 use harness::feeds::{troubled, MISHAPS};
 use harness::independent::calendar::date_of_record;
 use harness::independent::receiver::History;
-use harness::program::{example, output, product};
+use harness::program::{example, output, printed, product};
 use harness::random::{report, Random};
 
 /// What document 01 states: a lock, and nothing left over.
@@ -126,4 +131,95 @@ fn long_inputs() {
         Some(_) => report("bits through the product's program", count),
         None => println!("RECEIVE_BIN is not set: the product's program was NOT compared"),
     }
+}
+
+/// The product's program, started with these as its standard input and output, if it is there.
+fn start(input: impl Into<Stdio>, output: impl Into<Stdio>) -> Option<Child> {
+    let Some(product) = product() else {
+        println!("RECEIVE_BIN is not set: the product's program was NOT run");
+        return None;
+    };
+    let child = Command::new(product).stdin(input).stdout(output).stderr(Stdio::piped()).spawn();
+    Some(child.unwrap_or_else(|error| panic!("the product's program: {error}")))
+}
+
+/// A feed that waits this long for more, and the end that writes it.
+fn waiting_feed(patience: Duration) -> (OwnedFd, UnixStream) {
+    let (feed, writer) = UnixStream::pair().expect("a pair of sockets");
+    feed.set_read_timeout(Some(patience)).expect("a time to wait");
+    (feed.into(), writer)
+}
+
+/// What document 01 states the answer to.
+fn stated_blocks() -> String {
+    format!("1{}\n", "0".repeat(49)).repeat(3)
+}
+
+#[test]
+fn a_failed_read_is_no_end() {
+    let directory = File::open(env!("CARGO_TARGET_TMPDIR")).expect("a directory");
+    if let Some(child) = start(directory, Stdio::piped()) {
+        let (lines, reason) = printed(child);
+        assert_eq!(lines, "");
+        assert_eq!(reason, "receive: standard input: Is a directory\n");
+    }
+}
+
+#[test]
+fn a_read_that_fails_later_leaves_the_lines() {
+    let (feed, mut writer) = waiting_feed(Duration::from_millis(300));
+    if let Some(child) = start(feed, Stdio::piped()) {
+        writer.write_all(stated_blocks().as_bytes()).expect("writing bits");
+        let (lines, reason) = printed(child);
+        assert_eq!(lines, "LOCK 150\n");
+        assert_eq!(reason, "receive: standard input: Resource temporarily unavailable\n");
+    }
+}
+
+#[test]
+fn a_failed_write_is_told_once() {
+    for feed in ["feed.txt", "feed.out"] {
+        let full = File::options().write(true).open("/dev/full").expect("/dev/full");
+        let input = File::open(example(feed)).expect("an example");
+        if let Some(child) = start(input, full) {
+            let reason = printed(child).1;
+            assert_eq!(reason, "receive: standard output: No space left on device\n");
+        }
+    }
+}
+
+/// A stopped and resumed program finds its read interrupted, since the feed has a time to wait.
+#[test]
+fn an_interrupted_read_is_taken_up_again() {
+    let (feed, mut writer) = waiting_feed(Duration::from_secs(60));
+    let Some(child) = start(feed, Stdio::piped()) else { return };
+    for _ in 0..3 {
+        until(&child, 'S');
+        signal(&child, "STOP");
+        until(&child, 'T');
+        signal(&child, "CONT");
+    }
+    until(&child, 'S');
+    writer.write_all(stated_blocks().as_bytes()).expect("writing bits");
+    drop(writer);
+    assert_eq!(printed(child), (STATED.to_string(), String::new()));
+}
+
+fn signal(child: &Child, name: &str) {
+    let kill = format!("kill -{name} {}", child.id());
+    let status = Command::new("sh").args(["-c", &kill]).status();
+    assert!(status.is_ok_and(|status| status.success()), "{kill}");
+}
+
+/// Waits until the program is in this state: S is asleep, T is stopped.
+fn until(child: &Child, state: char) {
+    for _ in 0..1000 {
+        let stat = fs::read_to_string(format!("/proc/{}/stat", child.id()));
+        let stat = stat.expect("the program's state");
+        if stat.rsplit(") ").next().is_some_and(|rest| rest.starts_with(state)) {
+            return;
+        }
+        sleep(Duration::from_millis(10));
+    }
+    panic!("the program did not come into state {state}");
 }
