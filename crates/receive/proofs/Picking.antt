@@ -9,14 +9,14 @@ use mathlib.Core.List.{List, [], _∷_, _++_, append-assoc, append-nil}
 use mathlib.Core.Logic.{⊎-elim}
 use mathlib.Core.Path.{_≡_, refl, sym, ap, _∙_}
 use borrow.Author.Tests.{eq-eqb, ne-eqb}
-use lib.ListN.{length, getD, set, take, drop, length-set, length-take, take-append-drop}
+use lib.ListN.{length, getD, set, take, drop, length-set, length-take, drop-of-length-le, take-append-drop}
 use lib.Dec.{eqb}
-use lib.Seq.{take-suc-set, take-at, drop-set-lt, drop-drop, getD-drop}
+use lib.Seq.{take-suc-set, take-at, drop-set-lt, drop-drop, getD-take, getD-drop}
 use Rattle.block.specs.Bits.{Bits}
+use Rattle.block.proofs.Strings.{next}
 use Rattle.io.specs.Counts.{Counts}
 use Rattle.record.proofs.Tests.{le-or-lt}
 use Rattle.timekeeping.proofs.Choices.{cond-elim}
-use Rattle.receiver.proofs.Running.{left, left-none, left-some}
 use Rattle.receive.specs.declared.input.Picked.{Picked}
 use Rattle.receive.specs.Input.{nought, one, newline, Meant, before, meant, Picks}
 
@@ -43,6 +43,20 @@ module _ (c : ℕ) (cs : List ℕ) where
   other l o z = rw (ne-eqb c 10 l, ne-eqb c 48 o, ne-eqb c 49 z)
 
 -- ---- one place after the other
+
+-- the characters from the i-th up to the n-th
+abbrev left : List ℕ → ℕ → ℕ → List ℕ
+left entry i n = drop i (take n entry)
+
+module _ (entry : List ℕ) (i n : ℕ) (fits : n ≤ length entry) where
+  left-length : length (take n entry) ≡ n
+  left-length = omega (arith, length-take n entry)
+
+  left-none : n ≤ i → left entry i n ≡ []
+  left-none h = drop-of-length-le (take n entry) {i = i} (omega (arith, left-length))
+
+  left-some : i < n → left entry i n ≡ getD entry i 0 ∷ left entry (i + 1) n
+  left-some h = rw (← getD-take n entry i 0 h) (next (take n entry) i (omega (arith, left-length)))
 
 -- some bits in front of what characters mean
 abbrev after : List ℕ → Meant → Meant
@@ -79,7 +93,7 @@ module _ (entry buffer : List ℕ) (n bits i : ℕ) (fits : n ≤ length entry) 
 
   module _ (h : i < n) where
     here : left entry i n ≡ getD buffer i 0 ∷ left entry (i + 1) n
-    here = rw unread (left-some entry i n h fits)
+    here = rw unread (left-some entry i n fits h)
 
     pub skip : getD buffer i 0 ≡ newline → Picking entry buffer n bits (i + 1)
     skip e =
@@ -111,7 +125,7 @@ module _ (entry buffer : List ℕ) (n bits i : ℕ) (fits : n ≤ length entry) 
 
   pub all-read : n ≤ i → Picks (take n entry) entry (record { bits = bits; more = true }) buffer
   unfolding meant
-  all-read h = picks true (rw (left-none entry i n h fits))
+  all-read h = picks true (rw (left-none entry i n fits h))
 
 -- ---- what was picked
 

@@ -2,7 +2,7 @@
 mod states;
 mod windows;
 
-ghost use mathlib.Core.Bool.{cond};
+ghost use mathlib.Core.Bool.{not};
 ghost use mathlib.Core.Path.{_≡_};
 ghost use Prim.Native.Nat.{_<_, _≤_};
 ghost use lib.ListN.{length};
@@ -87,20 +87,14 @@ fn refused(why: Refusal, state: State) -> Stretch
     Stretch { ran, fed: 0 }
 }
 
-// Where a run ends that would have ended at `end`: here, if it is to stop where lock changes and it did, by the modes.
-fn end_of(stop: bool, before: u8, after: u8, here: usize, end: usize) -> usize
-    ensures { λ e. ⌜ e ≡ cond stop (cond (sameLock before after) end here) end ⌝ }
+// Whether lock came or went, by the modes before and after.
+fn changed(before: u8, after: u8) -> bool
+    ensures { λ t. ⌜ t ≡ not (sameLock before after) ⌝ }
 {
-    if stop {
-        if before == 2 {
-            if after != 2 {
-                return here;
-            }
-        } else if after == 2 {
-            return here;
-        }
+    if before == 2 {
+        return after != 2;
     }
-    end
+    after == 2
 }
 
 // The bits one after the other. The window stays where it is; only its lock and its counts change hands.
@@ -114,9 +108,8 @@ fn feed_all(state: State, bits: &[u8], stop: bool) -> Stretch
     let mut good: u32 = 0;
     let mut bad: u32 = 0;
     let mut passed: u32 = 0;
-    let mut end = bits.len();
     let mut i: usize = 0;
-    while i < end {
+    while i < bits.len() {
         let bit = bits[i];
         if 1 < bit {
             let here = state_of(lock, waiting as u8, window);
@@ -130,10 +123,14 @@ fn feed_all(state: State, bits: &[u8], stop: bool) -> Stretch
             good += judged.good as u32;
             bad += judged.bad as u32;
             passed += judged.passed as u32;
+            let before = lock.mode;
             let next = judged.lock;
-            end = end_of(stop, lock.mode, next.mode, i + 1, end);
             lock = next;
             waiting = settle(&mut window, judged.passed);
+            if stop && changed(before, lock.mode) {
+                let here = state_of(lock, waiting as u8, window);
+                return counted(0, good, bad, passed, i + 1, here);
+            }
         }
         i += 1;
     }

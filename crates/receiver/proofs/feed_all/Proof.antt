@@ -1,20 +1,21 @@
 -- `feed_all` meets its contract. The loop's invariant: what is left from here, with what is fed, counted and held, gives the whole run.
 -- Assumes nothing.
 use borrow.Author.Needs.{needs}
-use mathlib.Core.Bool.{Bool}
-use mathlib.Core.List.{List}
+use borrow.Author.Tests.{not-true, not-false}
+use mathlib.Core.Bool.{Bool, true}
+use mathlib.Core.List.{List, []}
 use mathlib.Core.Logic.{⊎-elim}
-use mathlib.Core.Path.{_≡_, sym, _∙_}
+use mathlib.Core.Path.{_≡_, refl, sym, _∙_}
 use Prim.Native.Nat.{ℕ, _≤_, _<_, _-_}
 use native.Mathlib.Omega.{arith}
-use lib.ListN.{length, getD, set, length-set}
-use lib.Seq.{take-length}
+use lib.ListN.{length, getD, drop, set, length-set, drop-of-length-le}
+use Rattle.block.proofs.Strings.{next}
 use Rattle.locking.specs.declared.Lock.{Lock}
 use Rattle.receiver.specs.declared.State.{State}
 use Rattle.receiver.specs.States.{stateOf, lockIn}
 use Rattle.receiver.specs.Changes.{sameLock}
 use Rattle.receiver.proofs.Small.{judged-small, after-places}
-use Rattle.receiver.proofs.Running.{left, left-none, left-some, left-of, left-bounds, goesOn, on-done, on-stops, on-waits, on-judges}
+use Rattle.receiver.proofs.Running.{goesOn, on-done, on-stops, on-waits, on-judges, on-ends}
 use Rattle.receiver.proofs.feed_all.Statement.{statement}
 use Rattle.receiver.proofs.feed_all.Tie as tie
 
@@ -24,12 +25,12 @@ entered : (stop : Bool) (bits : List ℕ) (s : State) (l : Lock) → l ≡ lockI
 entered stop bits s l e = rw e
 
 abbrev Inv-loop : tie.InvT-loop
-Inv-loop bits stop window₀ waiting₀ lock₀ good₀ bad₀ passed₀ end₀ i₀ window waiting lock good bad passed end i =
-    (i ≤ end) × (end ≤ length bits) × (waiting < 50) × (length window ≡ 50) × (good ≤ i) × (bad ≤ i) × (passed ≤ i)
-    × (goesOn stop (left bits i end) i good bad passed (stateOf lock waiting window) ≡ goesOn stop bits 0 0 0 0 (stateOf lock₀ waiting₀ window₀))
+Inv-loop bits stop window₀ waiting₀ lock₀ good₀ bad₀ passed₀ i₀ window waiting lock good bad passed i =
+    (i ≤ length bits) × (waiting < 50) × (length window ≡ 50) × (good ≤ i) × (bad ≤ i) × (passed ≤ i)
+    × (goesOn stop (drop i bits) i good bad passed (stateOf lock waiting window) ≡ goesOn stop bits 0 0 0 0 (stateOf lock₀ waiting₀ window₀))
 
 abbrev μ-loop : tie.MeasureT-loop
-μ-loop bits stop window₀ waiting₀ lock₀ good₀ bad₀ passed₀ end₀ i₀ window waiting lock good bad passed end i = length bits - i
+μ-loop bits stop window₀ waiting₀ lock₀ good₀ bad₀ passed₀ i₀ window waiting lock good bad passed i = length bits - i
 
 cast-waiting : tie.Need-cast-waiting Inv-loop μ-loop
 cast-waiting c = search needs
@@ -38,7 +39,7 @@ lock-in-requires : tie.Need-lock-in-requires Inv-loop μ-loop
 lock-in-requires c κs = search needs
 
 loop-holds : tie.Need-loop-holds Inv-loop μ-loop
-loop-holds c = (omega arith, omega arith, omega arith, search needs, omega arith, omega arith, omega arith, rw take-length)
+loop-holds c = (omega arith, omega arith, search needs, omega arith, omega arith, omega arith, refl)
 
 shared-slice-read-bit : tie.Need-shared-slice-read-bit Inv-loop μ-loop
 shared-slice-read-bit c = omega arith
@@ -60,11 +61,11 @@ returns c =
     let at = c .before .before .before .before .before .before in
     let start = at .before .before .before .before .before in
     let bits = start .args .bits .now in
-    let more = left-some bits (at .loop .i) (at .loop .end) (c .before .before .before .before .before .loop-test .taken) (at .loop .inv .1) in
+    let stop = start .args .stop in
+    let whole = rw (next bits (at .loop .i) (c .before .before .before .before .before .loop-test .taken)) at (at .loop .inv .6) in
     let no-bit : 2 ≤ getD bits (at .loop .i) 0 = omega (arith, c .before .before .before .if1 .taken) in
     rw (c .counted .ensures, c .before .number .ensures, c .before .before .state-of .ensures)
-    (sym (on-stops (start .args .stop) (at .loop .i) _ _ _ _ _ _ no-bit) ∙ rw more at (at .loop .inv .7)
-    ∙ entered (start .args .stop) bits (start .args .state) _ (at .before .lock-in .ensures))
+    (sym (on-stops stop (at .loop .i) _ _ _ _ _ _ no-bit) ∙ whole ∙ entered stop bits (start .args .state) _ (at .before .lock-in .ensures))
 
 array-write-window : tie.Need-array-write-window Inv-loop μ-loop
 array-write-window c = omega arith
@@ -76,7 +77,7 @@ slice-aggregate-judge-window : tie.Need-slice-aggregate-judge-window Inv-loop μ
 slice-aggregate-judge-window c = search needs
 
 judge-window-requires : tie.Need-judge-window-requires Inv-loop μ-loop
-judge-window-requires c κs = rw length-set (c .before .before .before .before .before .loop .inv .3)
+judge-window-requires c κs = rw length-set (c .before .before .before .before .before .loop .inv .2)
 
 cast-good : tie.Need-cast-good Inv-loop μ-loop
 cast-good c = search needs
@@ -105,20 +106,50 @@ add-passed c =
     let at = judged .before .before .before .before .before .before in
     omega (arith, judged-small (at .loop .window) _ _ _ (judged .judge-window .ensures), at .loop .inv, at .before .before .before .before .before .pre)
 
-add-end-of : tie.Need-add-end-of Inv-loop μ-loop
-add-end-of c =
-    let judged = c .before .before .before .before in
-    let test = judged .before .before .before .before .before in
-    let at = test .before in
-    omega (arith, at .loop .inv, at .before .before .before .before .before .pre, test .loop-test .taken)
-
-end-of-requires : tie.Need-end-of-requires Inv-loop μ-loop
-end-of-requires c κs = search needs
-
 settle-requires : tie.Need-settle-requires Inv-loop μ-loop
 settle-requires c κs =
-    let judged = c .before .before .before .before .before .before in
-    rw length-set (judged .before .before .before .before .before .before .loop .inv .3)
+    let judged = c .before .before .before .before .before in
+    rw length-set (judged .before .before .before .before .before .before .loop .inv .2)
+
+changed-requires : tie.Need-changed-requires Inv-loop μ-loop
+changed-requires c κs = search needs
+
+cast-state-of-2 : tie.Need-cast-state-of-2 Inv-loop μ-loop
+cast-state-of-2 c =
+    let settled = c .before .before .before in
+    let judged = settled .before .before .before .before .before .before in
+    omega (arith, judged-small [] _ _ _ (judged .judge-window .ensures) .room, settled .settle .ensures .0)
+
+state-of-requires-2 : tie.Need-state-of-requires-2 Inv-loop μ-loop
+state-of-requires-2 c κs = search needs
+
+add-counted : tie.Need-add-counted Inv-loop μ-loop
+add-counted c =
+    let settled = c .before .before .before .before in
+    let judged = settled .before .before .before .before .before .before in
+    let at = judged .before .before .before .before .before .before in
+    omega (arith, at .loop .inv, at .before .before .before .before .before .pre)
+
+counted-requires-2 : tie.Need-counted-requires-2 Inv-loop μ-loop
+counted-requires-2 c κs = search needs
+
+returns-2 : tie.Need-returns-2 Inv-loop μ-loop
+returns-2 c =
+    let settled = c .before .before .before .before .before in
+    let judged = settled .before .before .before .before .before .before in
+    let full = judged .before .before in
+    let at = full .before .before .before .before in
+    let start = at .before .before .before .before .before in
+    let bits = start .args .bits .now in
+    let stop = start .args .stop in
+    let j = judged .judge-window in
+    let whole = rw (next bits (at .loop .i) (full .before .before .before .loop-test .taken)) at (at .loop .inv .6) in
+    let bit : getD bits (at .loop .i) 0 < 2 = omega (arith, full .before .if1 .left) in
+    let to-stop = c .before .before .before .before .if3 .taken in
+    let change = not-true _ (sym (c .before .before .before .changed .ensures) ∙ c .before .before .if4 .taken) in
+    rw (c .counted2 .ensures, c .before .state-of2 .ensures, settled .settle .ensures .0, settled .settle .ensures .1)
+    (sym (on-ends stop (at .loop .i) _ _ _ _ _ bit _ _ _ (omega (arith, full .if2 .taken)) (j .result) (j .ensures) to-stop change)
+    ∙ whole ∙ entered stop bits (start .args .state) _ (at .before .lock-in .ensures))
 
 add-i : tie.Need-add-i Inv-loop μ-loop
 add-i c = omega arith
@@ -133,57 +164,54 @@ loop-again c =
     let bits = start .args .bits .now in
     let stop = start .args .stop in
     let inv = at .loop .inv in
-    let taken = c .before .before .before .loop-test .taken in
-    let whole = rw (left-some bits (at .loop .i) (at .loop .end) taken (inv .1)) at (inv .7) in
+    let whole = rw (next bits (at .loop .i) (c .before .before .before .loop-test .taken)) at (inv .6) in
     let bit : getD bits (at .loop .i) 0 < 2 = omega (arith, c .before .if1 .left) in
     ⊎-elim
     (λ w.
     let filled : List ℕ = set (at .loop .window) (at .loop .waiting) (getD bits (at .loop .i) 0) in
     let small = judged-small filled _ _ _ (w .2 .ensures) in
-    let full : length filled ≡ 50 = rw length-set (inv .3) in
-    let same = sameLock (at .loop .lock .mode) (w .2 .result .lock .mode) in
-    let bounds = left-bounds stop same (at .loop .i) (at .loop .end) taken in (
-      omega (arith, w .16, w .7 .ensures, bounds .0),
-      omega (arith, w .16, w .7 .ensures, bounds .1),
-      rw (w .11, w .9 .ensures .0) (small .room),
-      rw (w .10, w .9 .ensures .1) (after-places (w .2 .result) filled full),
+    let full : length filled ≡ 50 = rw length-set (inv .2) in
+    let same : stop ≡ true → sameLock (at .loop .lock .mode) (w .2 .result .lock .mode) ≡ true =
+    ⊎-elim (λ u _. not-false _ (sym (u .1 .ensures) ∙ u .2 .left)) (λ u e. cc) (w .9 .came) in (
+      omega arith,
+      rw (w .11, w .8 .ensures .0) (small .room),
+      rw (w .10, w .8 .ensures .1) (after-places (w .2 .result) filled full),
       omega (arith, w .13),
       omega (arith, w .14),
       omega (arith, w .15),
-      rw (w .10, w .11, w .12, w .13, w .14, w .15, w .16, w .7 .ensures, w .9 .ensures .0, w .9 .ensures .1, left-of bits (at .loop .i) (at .loop .end) stop same taken (inv .1))
-          (sym (on-judges stop (at .loop .i) _ _ _ _ _ bit _ _ _ (omega (arith, w .0 .taken)) (w .2 .result) (w .2 .ensures)) ∙ whole),
+      rw (w .10, w .11, w .12, w .13, w .14, w .15, w .8 .ensures .0, w .8 .ensures .1)
+          (sym (on-judges stop (at .loop .i) _ _ _ _ _ bit _ _ _ (omega (arith, w .0 .taken)) (w .2 .result) (w .2 .ensures) same) ∙ whole),
     ))
     (λ w. (
-      omega (arith, w .7),
-      omega (arith, w .7),
+      omega arith,
       omega (arith, w .0 .left, w .2),
-      rw (w .1, length-set) (inv .3),
+      rw (w .1, length-set) (inv .2),
       omega (arith, w .4),
       omega (arith, w .5),
       omega (arith, w .6),
-      rw (w .1, w .2, w .3, w .4, w .5, w .6, w .7)
+      rw (w .1, w .2, w .3, w .4, w .5, w .6)
           (sym (on-waits stop (at .loop .i) _ _ _ _ _ bit _ _ _ (omega (arith, w .0 .left))) ∙ whole),
     ))
     (c .if2 .came)
 
-cast-state-of-2 : tie.Need-cast-state-of-2 Inv-loop μ-loop
-cast-state-of-2 c = omega arith
+cast-state-of-3 : tie.Need-cast-state-of-3 Inv-loop μ-loop
+cast-state-of-3 c = omega arith
 
-state-of-requires-2 : tie.Need-state-of-requires-2 Inv-loop μ-loop
-state-of-requires-2 c κs = search needs
+state-of-requires-3 : tie.Need-state-of-requires-3 Inv-loop μ-loop
+state-of-requires-3 c κs = search needs
 
-counted-requires-2 : tie.Need-counted-requires-2 Inv-loop μ-loop
-counted-requires-2 c κs = search needs
+counted-requires-3 : tie.Need-counted-requires-3 Inv-loop μ-loop
+counted-requires-3 c κs = search needs
 
-returns-2 : tie.Need-returns-2 Inv-loop μ-loop
-returns-2 c =
+returns-3 : tie.Need-returns-3 Inv-loop μ-loop
+returns-3 c =
     let at = c .before .before .before in
     let start = at .before .before .before .before .before in
     let bits = start .args .bits .now in
-    let none = left-none bits (at .loop .i) (at .loop .end) (c .before .before .loop-test .left) (at .loop .inv .1) in
-    rw (c .counted2 .ensures, c .before .state-of2 .ensures)
-    (sym (on-done (start .args .stop) (at .loop .i) _ _ _ _) ∙ rw none at (at .loop .inv .7)
-    ∙ entered (start .args .stop) bits (start .args .state) _ (at .before .lock-in .ensures))
+    let stop = start .args .stop in
+    let whole = rw (drop-of-length-le bits (c .before .before .loop-test .left)) at (at .loop .inv .6) in
+    rw (c .counted3 .ensures, c .before .state-of3 .ensures)
+    (sym (on-done stop (at .loop .i) _ _ _ _) ∙ whole ∙ entered stop bits (start .args .state) _ (at .before .lock-in .ensures))
 
 pub feed-all-spec : {M : Type 1} → statement M
 feed-all-spec =
@@ -210,13 +238,17 @@ feed-all-spec =
     add-bad
     cast-passed
     add-passed
-    add-end-of
-    end-of-requires
     settle-requires
+    changed-requires
+    cast-state-of-2
+    state-of-requires-2
+    add-counted
+    counted-requires-2
+    returns-2
     add-i
     loop-less
     loop-again
-    cast-state-of-2
-    state-of-requires-2
-    counted-requires-2
-    returns-2)
+    cast-state-of-3
+    state-of-requires-3
+    counted-requires-3
+    returns-3)
