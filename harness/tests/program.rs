@@ -176,11 +176,15 @@ fn a_read_that_fails_later_leaves_the_lines() {
     }
 }
 
+/// Also where there is much more to read, and to tell, after it.
 #[test]
 fn a_failed_write_is_told_once() {
-    for feed in ["feed.txt", "feed.out"] {
+    let long = Path::new(env!("CARGO_TARGET_TMPDIR")).join("comes and goes");
+    let comes_and_goes = stated_blocks() + &"0".repeat(200);
+    fs::write(&long, comes_and_goes.repeat(1000)).expect("writing a feed");
+    for feed in [example("feed.txt"), example("feed.out"), long] {
         let full = File::options().write(true).open("/dev/full").expect("/dev/full");
-        let input = File::open(example(feed)).expect("an example");
+        let input = File::open(&feed).expect("a feed");
         if let Some(child) = start(input, full) {
             let reason = printed(child).1;
             assert_eq!(reason, "receive: standard output: No space left on device\n");
