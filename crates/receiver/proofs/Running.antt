@@ -1,7 +1,7 @@
 -- A run bit by bit, as the loop goes: a bit that only waits, a bit that fills the window, a bit with which lock changes where the
 -- run is to stop there, a bit that is none, and the end.
 -- Assumes nothing.
-use mathlib.Core.Bool.{Bool, true, false, cond, not}
+use mathlib.Core.Bool.{Bool, true, false, cond, not, _&&_}
 use mathlib.Core.List.{List, [], _∷_}
 use mathlib.Core.Path.{_≡_, refl}
 use Prim.Native.Nat.{ℕ, _+_, _<_, _≤_}
@@ -62,6 +62,17 @@ module _ (stop : Bool) (s : State) (b : ℕ) (bs : List ℕ) where
       by : (stop : Bool) → (rest : List ℕ) × (upTo stop s (b ∷ bs) ≡ b ∷ rest)
       by true = (_, refl)
       by false = (_, refl)
+
+-- the test for the end of a run: where it fails, lock is the same if the run is to stop at all; where it passes, both hold
+pub went-on : (stop same test : Bool) → test ≡ stop && not same → test ≡ false → stop ≡ true → same ≡ true
+went-on true true test d e k = refl
+went-on true false test d e k = cc
+went-on false same test d e k = cc
+
+pub stopped : (stop same test : Bool) → test ≡ stop && not same → test ≡ true → (stop ≡ true) × (same ≡ false)
+stopped true true test d e = (refl, cc)
+stopped true false test d e = (refl, refl)
+stopped false same test d e = (cc, cc)
 
 module _ (stop : Bool) (fed good bad passed : ℕ) (s : State) where
   pub on-done : goesOn stop [] fed good bad passed s ≡ withFed (ended 0 good bad passed s) fed

@@ -2,7 +2,7 @@
 mod states;
 mod windows;
 
-ghost use mathlib.Core.Bool.{not};
+ghost use mathlib.Core.Bool.{_&&_, not};
 ghost use mathlib.Core.Path.{_≡_};
 ghost use Prim.Native.Nat.{_<_, _≤_};
 ghost use lib.ListN.{length};
@@ -87,14 +87,17 @@ fn refused(why: Refusal, state: State) -> Stretch
     Stretch { ran, fed: 0 }
 }
 
-// Whether lock came or went, by the modes before and after.
-fn changed(before: u8, after: u8) -> bool
-    ensures { λ t. ⌜ t ≡ not (sameLock before after) ⌝ }
+// Whether a run ends here: it is to stop where lock changes, and it did, by the modes before and after.
+fn ends(stop: bool, before: u8, after: u8) -> bool
+    ensures { λ t. ⌜ t ≡ stop && not (sameLock before after) ⌝ }
 {
-    if before == 2 {
-        return after != 2;
+    if stop {
+        if before == 2 {
+            return after != 2;
+        }
+        return after == 2;
     }
-    after == 2
+    false
 }
 
 // The bits one after the other. The window stays where it is; only its lock and its counts change hands.
@@ -127,7 +130,7 @@ fn feed_all(state: State, bits: &[u8], stop: bool) -> Stretch
             let next = judged.lock;
             lock = next;
             waiting = settle(&mut window, judged.passed);
-            if stop && changed(before, lock.mode) {
+            if ends(stop, before, lock.mode) {
                 let here = state_of(lock, waiting as u8, window);
                 return counted(0, good, bad, passed, i + 1, here);
             }

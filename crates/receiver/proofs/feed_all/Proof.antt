@@ -1,8 +1,7 @@
 -- `feed_all` meets its contract. The loop's invariant: what is left from here, with what is fed, counted and held, gives the whole run.
 -- Assumes nothing.
 use borrow.Author.Needs.{needs}
-use borrow.Author.Tests.{not-true, not-false}
-use mathlib.Core.Bool.{Bool, true}
+use mathlib.Core.Bool.{Bool}
 use mathlib.Core.List.{List, []}
 use mathlib.Core.Logic.{⊎-elim}
 use mathlib.Core.Path.{_≡_, refl, sym, _∙_}
@@ -15,7 +14,7 @@ use Rattle.receiver.specs.declared.State.{State}
 use Rattle.receiver.specs.States.{stateOf, lockIn}
 use Rattle.receiver.specs.Changes.{sameLock}
 use Rattle.receiver.proofs.Small.{judged-small, after-places}
-use Rattle.receiver.proofs.Running.{goesOn, on-done, on-stops, on-waits, on-judges, on-ends}
+use Rattle.receiver.proofs.Running.{goesOn, went-on, stopped, on-done, on-stops, on-waits, on-judges, on-ends}
 use Rattle.receiver.proofs.feed_all.Statement.{statement}
 use Rattle.receiver.proofs.feed_all.Tie as tie
 
@@ -111,12 +110,12 @@ settle-requires c κs =
     let judged = c .before .before .before .before .before in
     rw length-set (judged .before .before .before .before .before .before .loop .inv .2)
 
-changed-requires : tie.Need-changed-requires Inv-loop μ-loop
-changed-requires c κs = search needs
+ends-requires : tie.Need-ends-requires Inv-loop μ-loop
+ends-requires c κs = search needs
 
 cast-state-of-2 : tie.Need-cast-state-of-2 Inv-loop μ-loop
 cast-state-of-2 c =
-    let settled = c .before .before .before in
+    let settled = c .before .before in
     let judged = settled .before .before .before .before .before .before in
     omega (arith, judged-small [] _ _ _ (judged .judge-window .ensures) .room, settled .settle .ensures .0)
 
@@ -125,7 +124,7 @@ state-of-requires-2 c κs = search needs
 
 add-counted : tie.Need-add-counted Inv-loop μ-loop
 add-counted c =
-    let settled = c .before .before .before .before in
+    let settled = c .before .before .before in
     let judged = settled .before .before .before .before .before .before in
     let at = judged .before .before .before .before .before .before in
     omega (arith, at .loop .inv, at .before .before .before .before .before .pre)
@@ -135,7 +134,7 @@ counted-requires-2 c κs = search needs
 
 returns-2 : tie.Need-returns-2 Inv-loop μ-loop
 returns-2 c =
-    let settled = c .before .before .before .before .before in
+    let settled = c .before .before .before .before in
     let judged = settled .before .before .before .before .before .before in
     let full = judged .before .before in
     let at = full .before .before .before .before in
@@ -145,10 +144,10 @@ returns-2 c =
     let j = judged .judge-window in
     let whole = rw (next bits (at .loop .i) (full .before .before .before .loop-test .taken)) at (at .loop .inv .6) in
     let bit : getD bits (at .loop .i) 0 < 2 = omega (arith, full .before .if1 .left) in
-    let to-stop = c .before .before .before .before .if3 .taken in
-    let change = not-true _ (sym (c .before .before .before .changed .ensures) ∙ c .before .before .if4 .taken) in
+    let end = c .before .before .before .ends in
+    let change = stopped stop (sameLock (at .loop .lock .mode) (j .result .lock .mode)) (end .result) (end .ensures) (c .before .before .if3 .taken) in
     rw (c .counted2 .ensures, c .before .state-of2 .ensures, settled .settle .ensures .0, settled .settle .ensures .1)
-    (sym (on-ends stop (at .loop .i) _ _ _ _ _ bit _ _ _ (omega (arith, full .if2 .taken)) (j .result) (j .ensures) to-stop change)
+    (sym (on-ends stop (at .loop .i) _ _ _ _ _ bit _ _ _ (omega (arith, full .if2 .taken)) (j .result) (j .ensures) (change .0) (change .1))
     ∙ whole ∙ entered stop bits (start .args .state) _ (at .before .lock-in .ensures))
 
 add-i : tie.Need-add-i Inv-loop μ-loop
@@ -171,15 +170,14 @@ loop-again c =
     let filled : List ℕ = set (at .loop .window) (at .loop .waiting) (getD bits (at .loop .i) 0) in
     let small = judged-small filled _ _ _ (w .2 .ensures) in
     let full : length filled ≡ 50 = rw length-set (inv .2) in
-    let same : stop ≡ true → sameLock (at .loop .lock .mode) (w .2 .result .lock .mode) ≡ true =
-    ⊎-elim (λ u _. not-false _ (sym (u .1 .ensures) ∙ u .2 .left)) (λ u e. cc) (w .9 .came) in (
+    let same = went-on stop (sameLock (at .loop .lock .mode) (w .2 .result .lock .mode)) (w .9 .result) (w .9 .ensures) (w .10 .left) in (
       omega arith,
-      rw (w .11, w .8 .ensures .0) (small .room),
-      rw (w .10, w .8 .ensures .1) (after-places (w .2 .result) filled full),
-      omega (arith, w .13),
+      rw (w .12, w .8 .ensures .0) (small .room),
+      rw (w .11, w .8 .ensures .1) (after-places (w .2 .result) filled full),
       omega (arith, w .14),
       omega (arith, w .15),
-      rw (w .10, w .11, w .12, w .13, w .14, w .15, w .8 .ensures .0, w .8 .ensures .1)
+      omega (arith, w .16),
+      rw (w .11, w .12, w .13, w .14, w .15, w .16, w .8 .ensures .0, w .8 .ensures .1)
           (sym (on-judges stop (at .loop .i) _ _ _ _ _ bit _ _ _ (omega (arith, w .0 .taken)) (w .2 .result) (w .2 .ensures) same) ∙ whole),
     ))
     (λ w. (
@@ -239,7 +237,7 @@ feed-all-spec =
     cast-passed
     add-passed
     settle-requires
-    changed-requires
+    ends-requires
     cast-state-of-2
     state-of-requires-2
     add-counted
