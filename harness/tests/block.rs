@@ -98,9 +98,9 @@ fn tests_come_in_their_order() {
 }
 
 #[test]
-fn every_row_of_the_table() {
-    // Every byte at every place in the message that is a multiple of four, so
-    // that it meets the table however the division splits the 36 bits.
+fn every_byte_in_the_message() {
+    // Every byte at every place in the message that is a multiple of four, after
+    // every code.
     for shift in (0..32).step_by(4) {
         for byte in 0..=255u32 {
             for code in 0..16 {

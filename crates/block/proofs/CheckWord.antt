@@ -9,15 +9,12 @@ use lib.Bits.{bitXor, xor-self}
 use lib.ListN.{length, drop, length-drop}
 use Rattle.block.specs.Bits.{Bits, value, zeros}
 use Rattle.block.specs.Division.{remainderFrom, remainder}
-use Rattle.block.specs.Block.{Checks, Good, bodyIn, checkIn, checkOf}
+use Rattle.block.specs.Block.{Good, bodyIn, checkIn, checkOf}
 use Rattle.block.proofs.Xor.{xor-eq}
 use Rattle.block.proofs.Strings.{parts, bits-append, bits-zeros, bits-take, bits-drop, rem-append, rem-lt, rem-val, rem-split}
 
 pub check-lt : (body : List ℕ) → Bits body → checkOf body < 8192
 check-lt body h = rem-lt (body ++ zeros 13) 0 (omega arith) (bits-append body (zeros 13) h (bits-zeros 13))
-
-pub checks-lt : {s : List ℕ} {q : ℕ} → Checks s q → q < 8192
-checks-lt {s} k = omega (arith, k .is, check-lt s (k .bits))
 
 module _ (s : List ℕ) (e : length s ≡ 50) (h : Bits s) where
   pub check-rem : remainder (drop 1 s) ≡ bitXor (checkOf (bodyIn s)) (value (checkIn s))

@@ -3,12 +3,9 @@ pub mod Linear
 pub mod Strings
 pub mod Polynomials
 pub mod Below
-pub mod Table
 pub mod CheckWord
-pub mod Bytes
 pub mod Reading
 pub mod RoundTrip
 pub mod Taken
 pub mod Inverted
 pub mod Determined
-pub mod Either

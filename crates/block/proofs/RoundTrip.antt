@@ -6,20 +6,20 @@ use Prim.Native.Nat.{ℕ, _<_, _+_, _*_, _^_}
 use native.Mathlib.Omega.{arith}
 use lib.ListN.{length, take, drop, length-append}
 use lib.Seq.{take-at, drop-at}
-use Rattle.block.specs.Bits.{Bits, bitsOf, value}
+use Rattle.block.specs.Bits.{Bits, bitsOf, value, zeros}
 use Rattle.block.specs.Block.{Good, codeIn, wordIn, bodyOf, blockOf, checkOf}
 use Rattle.block.specs.Read.{readOf}
 use Rattle.block.specs.declared.Read.the-variants.{Block}
 use Rattle.block.proofs.CheckWord.{check-lt}
 use Rattle.block.proofs.Reading.{good-reads}
-use Rattle.block.proofs.Strings.{bits-append, bits-bitsOf, bitsOf-join, length-bitsOf, val-bitsOf}
+use Rattle.block.proofs.Strings.{bits-append, bits-bitsOf, bitsOf-join, length-bitsOf, thirteen-zeros, val-bitsOf}
 
 one : bitsOf 1 1 ≡ 1 ∷ []
 unfolding bitsOf
 one = refl
 
 module _ (code word : ℕ) where
-  length-body : length (bodyOf code word) ≡ 36
+  pub length-body : length (bodyOf code word) ≡ 36
   unfolding bodyOf
   length-body = omega (arith, length-append (bitsOf 4 code) (bitsOf 32 word), length-bitsOf 4 code, length-bitsOf 32 word)
 
@@ -27,19 +27,26 @@ module _ (code word : ℕ) where
   unfolding bodyOf
   bits-body = bits-append (bitsOf 4 code) (bitsOf 32 word) (bits-bitsOf 4 code) (bits-bitsOf 32 word)
 
-  pub body-check-lt : checkOf (bodyOf code word) < 8192
+  body-check-lt : checkOf (bodyOf code word) < 8192
   body-check-lt = check-lt (bodyOf code word) bits-body
 
-  pub block-number : code < 16 → word < 2 ^ 32
-      → bitsOf 50 (2 ^ 49 + (code * 2 ^ 32 + word) * 2 ^ 13 + checkOf (bodyOf code word)) ≡ blockOf code word
-  unfolding blockOf bodyOf
-  block-number hc hw =
+  -- code and word are the bits of one number
+  pub body-number : word < 2 ^ 32 → bitsOf 36 (code * 2 ^ 32 + word) ≡ bodyOf code word
+  unfolding bodyOf
+  body-number hw = bitsOf-join 4 32 code word hw
+
+  -- the prefix, code and word, with zeros where the check word goes
+  pub open-block : code < 16 → word < 2 ^ 32 → bitsOf 50 (2 ^ 49 + (code * 2 ^ 32 + word) * 2 ^ 13) ≡ 1 ∷ (bodyOf code word ++ zeros 13)
+  open-block hc hw =
       let b : ℕ = code * 2 ^ 32 + word in
-      let k : ℕ = checkOf (bodyOf code word) in
-      let hk : k < 8192 = body-check-lt in
-      let e : 2 ^ 49 + b * 2 ^ 13 + k ≡ 1 * 2 ^ 49 + (b * 2 ^ 13 + k) = omega arith in
-      ap (bitsOf 50) e ∙ bitsOf-join 1 49 1 (b * 2 ^ 13 + k) (omega arith)
-      ∙ ap₂ (λ (x y : List ℕ). x ++ y) one (bitsOf-join 36 13 b k hk ∙ ap (λ (l : List ℕ). l ++ bitsOf 13 k) (bitsOf-join 4 32 code word hw))
+      let e : 2 ^ 49 + b * 2 ^ 13 ≡ 1 * 2 ^ 49 + (b * 2 ^ 13 + 0) = omega arith in
+      ap (bitsOf 50) e ∙ bitsOf-join 1 49 1 (b * 2 ^ 13 + 0) (omega arith)
+      ∙ ap₂ (λ (x y : List ℕ). x ++ y) one (bitsOf-join 36 13 b 0 (omega arith) ∙ ap₂ (λ (x y : List ℕ). x ++ y) (body-number hw) thirteen-zeros)
+
+  -- the check word over those zeros closes it
+  pub closed : take 37 (1 ∷ (bodyOf code word ++ zeros 13)) ++ bitsOf 13 (checkOf (bodyOf code word)) ≡ blockOf code word
+  unfolding blockOf
+  closed = ap (λ (l : List ℕ). 1 ∷ (l ++ bitsOf 13 (checkOf (bodyOf code word)))) (take-at (bodyOf code word) (zeros 13) 36 length-body)
 
   pub written-good : Good (blockOf code word)
   unfolding blockOf

@@ -4,12 +4,12 @@ use mathlib.Core.Path.{_≡_, refl, sym, ap, ap₂, _∙_, subst}
 use mathlib.Core.Bool.{Bool, true, false, _&&_}
 use mathlib.Core.List.{List, [], _∷_, _++_, append-assoc, append-nil}
 use Prim.Native.Nat.{ℕ, zero, suc, _+_, _-_, _*_, _/_, _%_, _^_, _<_, _≤_}
-use native.Mathlib.Nat.{add-suc, pow-suc, le-refl, le-of-suc-le-suc, mul-le-mul-right, div-add-mod'}
+use native.Mathlib.Nat.{zero-add, add-suc, pow-suc, mod-lt, le-refl, le-of-suc-le-suc, mul-le-mul-right, div-add-mod'}
 use native.Mathlib.Numerals.{add-one}
 use native.Mathlib.Omega.{arith}
-use borrow.Author.Tests.{lt-ltb, ltb-true}
+use borrow.Author.Tests.{lt-ltb, le-ltb, ltb-true}
 use lib.Dec.{ltb}
-use lib.Pow.{pow-mono}
+use lib.Pow.{pow-mono, pow-pos}
 use lib.ListN.{length, getD, take, drop, length-append, length-drop, take-append-drop, drop-of-length-le, length-replicate}
 use lib.Seq.{drop-cons, drop-drop, take-all}
 use lib.Arith.{digits-div, digits-mod}
@@ -63,13 +63,26 @@ pub bits-are : (s : List ℕ) → Bits s → areBits s ≡ true
 bits-are [] h = refl
 bits-are (b ∷ s) h = ap (λ (t : Bool). t && areBits s) (lt-ltb b 2 (h .0)) ∙ bits-are s (h .1)
 
+pub not-true : false ≡ true → ⊥
+not-true e = let z : _≡_ {A = ℕ} 0 1 = cc in omega arith
+
 pub are-bits : (s : List ℕ) → areBits s ≡ true → Bits s
 are-bits [] h = tt
 are-bits (b ∷ s) h = go (ltb b 2) refl (are-bits s)
   where
     go : (t : Bool) → ltb b 2 ≡ t → (areBits s ≡ true → Bits s) → Bits (b ∷ s)
     go true e f = (ltb-true b 2 e, f (sym (ap (λ (t : Bool). t && areBits s) e) ∙ h))
-    go false e f = absurd (let z : false ≡ true = sym (ap (λ (t : Bool). t && areBits s) e) ∙ h in let y : _≡_ {A = ℕ} 0 1 = cc in omega arith)
+    go false e f = absurd (not-true (sym (ap (λ (t : Bool). t && areBits s) e) ∙ h))
+
+-- the walk of the test along a string: the next bit, a value that is none, and the end
+pub are-next : (s : List ℕ) (i : ℕ) → i < length s → getD s i 0 < 2 → areBits (drop i s) ≡ areBits (drop (i + 1) s)
+are-next s i h b = ap areBits (next s i h) ∙ ap (λ (t : Bool). t && areBits (drop (i + 1) s)) (lt-ltb (getD s i 0) 2 b)
+
+pub are-not : (s : List ℕ) (i : ℕ) → i < length s → 2 ≤ getD s i 0 → areBits (drop i s) ≡ false
+are-not s i h b = ap areBits (next s i h) ∙ ap (λ (t : Bool). t && areBits (drop (i + 1) s)) (le-ltb (getD s i 0) 2 b)
+
+pub are-done : (s : List ℕ) (i : ℕ) → length s ≤ i → areBits (drop i s) ≡ true
+are-done s i h = ap areBits (drop-of-length-le s h)
 
 -- ---- the value
 
@@ -142,7 +155,7 @@ module _ (xs ys : List ℕ) (k : ℕ) (l : length ys ≡ k) (h : Bits ys) where
   pub val-low : value (xs ++ ys) % 2 ^ k ≡ value ys
   val-low = ap (λ (n : ℕ). n % 2 ^ k) val-join ∙ digits-mod (value xs) below
 
-val-cons : (b : ℕ) (bs : List ℕ) → value (b ∷ bs) ≡ b * 2 ^ length bs + value bs
+pub val-cons : (b : ℕ) (bs : List ℕ) → value (b ∷ bs) ≡ b * 2 ^ length bs + value bs
 unfolding valueFrom
 val-cons b bs = let z : 0 * 2 + b ≡ b = omega arith in val-from bs (0 * 2 + b) ∙ ap (λ (n : ℕ). n * 2 ^ length bs + value bs) z
 
@@ -157,6 +170,21 @@ bitsOf-join j (suc k) a b h =
     ∙ ap₂ (λ (x y : ℕ). bitsOf (j + k) x ++ (y ∷ [])) (block-half a k b) (block-odd a k b)
     ∙ ap (λ (l : List ℕ). l ++ (b % 2 ∷ [])) (bitsOf-join j k a (b / 2) (omega arith))
     ∙ append-assoc (bitsOf j a) (bitsOf k (b / 2)) (b % 2 ∷ [])
+
+-- the highest of the lowest bits stands first
+pub bitsOf-first : (k n : ℕ) → bitsOf (suc k) n ≡ n / 2 ^ k % 2 ∷ bitsOf k n
+unfolding bitsOf
+bitsOf-first k n =
+    let b : ℕ = n % 2 ^ k in
+    let h : b < 2 ^ k = mod-lt n (pow-pos k) in
+    let e : n ≡ n / 2 ^ k * 2 ^ k + b = sym (div-add-mod' n (2 ^ k)) in
+    let d : suc k ≡ 1 + k = omega arith in
+    ap₂ bitsOf d e ∙ bitsOf-join 1 k (n / 2 ^ k) b h
+    ∙ ap (λ (l : List ℕ). n / 2 ^ k % 2 ∷ l) (sym (bitsOf-join 0 k (n / 2 ^ k) b h) ∙ ap₂ bitsOf (zero-add k) (sym e))
+
+pub thirteen-zeros : bitsOf 13 0 ≡ zeros 13
+unfolding bitsOf
+thirteen-zeros = refl
 
 -- two strings of one length that write the same number are the same
 pub val-inj : (xs ys : List ℕ) → Bits xs → Bits ys → length xs ≡ length ys → value xs ≡ value ys → xs ≡ ys
@@ -189,6 +217,13 @@ pub rem-done : (s : List ℕ) (r i : ℕ) → length s ≤ i → remainderFrom r
 unfolding remainderFrom
 rem-done s r i h = ap (remainderFrom r) (drop-of-length-le s h)
 
+pub rem-first : (k n r : ℕ) → 0 < k → remainderFrom r (bitsOf k n) ≡ remainderFrom (stepBit r (n / 2 ^ (k - 1) % 2)) (bitsOf (k - 1) n)
+unfolding remainderFrom
+rem-first zero n r h = absurd (omega arith)
+rem-first (suc k) n r h =
+    let e : k ≡ suc k - 1 = omega arith in
+    ap (remainderFrom r) (bitsOf-first k n) ∙ ap (λ (j : ℕ). remainderFrom (stepBit r (n / 2 ^ j % 2)) (bitsOf j n)) e
+
 pub rem-append : (xs ys : List ℕ) (r : ℕ) → remainderFrom r (xs ++ ys) ≡ remainderFrom (remainderFrom r xs) ys
 unfolding remainderFrom
 rem-append [] ys r = refl
@@ -199,12 +234,18 @@ unfolding remainderFrom
 rem-lt [] r hr h = hr
 rem-lt (b ∷ bs) r hr h = rem-lt bs (stepBit r b) (step-lt r b hr (h .0)) (h .1)
 
--- where no x^13 comes up, the remainder is the value
-step-small : (r b : ℕ) → r * 2 + b < 8192 → stepBit r b ≡ r * 2 + b
+-- a turn of the circuit: where no x^13 comes up nothing is fed back, and so the remainder is the value
+pub step-small : (r b : ℕ) → r * 2 + b < 8192 → stepBit r b ≡ r * 2 + b
 unfolding stepBit
 step-small r b h =
     let e : (r * 2 + b) / 8192 ≡ 0 = omega arith in
     ap (λ (t : ℕ). bitXor (r * 2 + b) (t * generator)) e ∙ xor-zero-r (r * 2 + b)
+
+pub step-fed : (r b : ℕ) → 8192 ≤ r * 2 + b → r * 2 + b < 16384 → stepBit r b ≡ bitXor (r * 2 + b) generator
+unfolding stepBit
+step-fed r b h k =
+    let e : (r * 2 + b) / 8192 ≡ 1 = omega arith in
+    ap (λ (t : ℕ). bitXor (r * 2 + b) (t * generator)) e
 
 pub rem-small : (bs : List ℕ) (r : ℕ) → valueFrom r bs < 8192 → remainderFrom r bs ≡ valueFrom r bs
 unfolding remainderFrom valueFrom
@@ -238,9 +279,3 @@ pub rem-split : (bs : List ℕ) (r : ℕ) → r < 8192 → Bits bs → remainder
 rem-split bs r hr h =
     ap₂ remainderFrom (sym (xor-zero-r r)) (sym (xors-zeros bs))
     ∙ rem-xor (zeros (length bs)) bs r 0 hr (omega arith) (bits-zeros (length bs)) h (length-replicate (length bs) 0)
-
--- the register is linear too
-pub rem-register : (n x y : ℕ) → x < 8192 → y < 8192 → remainderFrom (bitXor x y) (zeros n) ≡ bitXor (remainderFrom x (zeros n)) (remainderFrom y (zeros n))
-rem-register n x y hx hy =
-    let e : xors (zeros n) (zeros n) ≡ zeros n = subst (λ (m : ℕ). xors (zeros m) (zeros n) ≡ zeros n) (length-replicate n 0) (xors-zeros (zeros n)) in
-    ap (remainderFrom (bitXor x y)) (sym e) ∙ rem-xor (zeros n) (zeros n) x y hx hy (bits-zeros n) (bits-zeros n) refl

@@ -29,11 +29,6 @@ bodyIn s = take 36 (drop 1 s)
 abbrev pub checkOf : List ℕ → ℕ
 checkOf body = remainder (body ++ zeros 13)
 
--- q is the check word of the bits s
-pub record Checks (s : List ℕ) (q : ℕ) : Type 0 where
-  pub bits : Bits s
-  pub is : q ≡ checkOf s
-
 -- good: fifty bits, the prefix 1, and the check word that remainder
 pub record Good (s : List ℕ) : Type 0 where
   pub size : length s ≡ 50

@@ -1,12 +1,9 @@
 -- Division of bit strings by the generator, modulo 2: the report's division circuit (BBC RD 1984/19, 5.3 and the Appendix).
 -- A remainder is a number below 8,192, its highest bit the coefficient of x^12; the sum of two is `bitXor`.
 -- Assumes nothing.
-use mathlib.Core.Path.{_≡_}
-use mathlib.Core.List.{List, [], _∷_, _++_}
-use Prim.Native.Nat.{ℕ, _+_, _*_, _/_, _<_}
+use mathlib.Core.List.{List, [], _∷_}
+use Prim.Native.Nat.{ℕ, _+_, _*_, _/_}
 use lib.Bits.{bitXor}
-use lib.ListN.{length, getD}
-use Rattle.block.specs.Bits.{bitsOf, zeros}
 
 -- x^13+x^12+x^11+x^10+x^7+x^6+x^5+x^4+x^2+1 (01, "The block"), a digit for each power from x^13 down
 abbrev pub generator : ℕ
@@ -30,8 +27,3 @@ remainderFrom r (b ∷ bs) = remainderFrom (stepBit r b) bs
 -- the remainder of a string: the register begins at zero
 abbrev pub remainder : List ℕ → ℕ
 remainder bs = remainderFrom 0 bs
-
--- a table of all remainders: at each byte stands the remainder of that byte times x^13 (01, "The block")
-pub record Remainders (table : List ℕ) : Type 0 where
-  pub size : length table ≡ 256
-  pub rule : (k : ℕ) → k < 256 → getD table k 0 ≡ remainder (bitsOf 8 k ++ zeros 13)

@@ -1,19 +1,18 @@
 // The block of fifty bits: reading, writing, and choosing between two aerials.
-mod division;
+mod circuit;
 mod memory;
 
 ghost use mathlib.Core.List.{[]};
 ghost use mathlib.Core.Path.{_≡_};
 ghost use Prim.Native.Nat.{_<_};
 ghost use lib.ListN.{length};
-ghost use Rattle.block.specs.Bits.{Bits};
-ghost use Rattle.block.specs.Block.{prefixIn, blockOf};
+ghost use Rattle.block.specs.Block.{blockOf};
 ghost use Rattle.block.specs.Choose.{choiceOf, chosen, told};
 ghost use Rattle.block.specs.Read.{readOf};
 ghost use Rattle.block.specs.Write.{writeOf, writtenOf};
-use division::check_word;
-use division::divide;
-use memory::all_bits;
+use circuit::PRESET;
+use circuit::check_word;
+use circuit::divide;
 use memory::store;
 use refusal::Refusal;
 
@@ -36,21 +35,6 @@ pub enum Choice {
     Neither(Refusal),
 }
 
-// What fifty bits behind the prefix 1 say.
-fn read_body(block: &[u8]) -> Read
-    requires { ⌜ (length (now block) ≡ 50) × Bits (now block) × (prefixIn (now block) ≡ 1) ⌝ }
-    ensures { λ r. ⌜ r ≡ readOf (now (block .entry)) ⌝ }
-{
-    let divided = divide(&block[1..]);
-    let number = divided.number;
-    if divided.rest != 0 {
-        return Read::Refused(Refusal::WrongCheckWord);
-    }
-    let code = (number / 0x2000_0000_0000) as u8;
-    let word = (number / 0x2000 % 0x1_0000_0000) as u32;
-    Read::Block { code, word }
-}
-
 // The code and the word of a block.
 pub fn read_block(block: &[u8]) -> Read
     ensures { λ r. ⌜ r ≡ readOf (now (block .entry)) ⌝ }
@@ -58,12 +42,18 @@ pub fn read_block(block: &[u8]) -> Read
     if block.len() != 50 {
         return Read::Refused(Refusal::WrongLength);
     }
-    if all_bits(block) {
-        if block[0] == 1 {
-            read_body(block)
-        } else {
-            Read::Refused(Refusal::WrongPrefix)
+    let divided = divide(PRESET, block);
+    let number = divided.number;
+    if divided.bits {
+        if number < 0x2_0000_0000_0000 {
+            return Read::Refused(Refusal::WrongPrefix);
         }
+        if divided.register != 0 {
+            return Read::Refused(Refusal::WrongCheckWord);
+        }
+        let code = (number / 0x2000_0000_0000 % 16) as u8;
+        let word = (number / 0x2000 % 0x1_0000_0000) as u32;
+        Read::Block { code, word }
     } else {
         Read::Refused(Refusal::NotABit)
     }
@@ -73,9 +63,10 @@ fn fill(out: &mut [u8], code: u8, word: u32)
     requires { ⌜ (length (now out) ≡ 50) × (code < 16) ⌝ }
     ensures { λ _. ⌜ now (out .exit) ≡ blockOf code word ⌝ }
 {
-    let check = check_word(code, word);
     let body = (code as u64) * 0x1_0000_0000 + (word as u64);
-    store(out, 0x2_0000_0000_0000 + body * 0x2000 + (check as u64));
+    let check = check_word(body);
+    store(out, 0x2_0000_0000_0000 + body * 0x2000);
+    store(&mut out[37..], check as u64);
 }
 
 // The block of a code and a word, into fifty places.

@@ -6,7 +6,7 @@ use mathlib.Core.Path.{_≡_, sym, ap, _∙_}
 use Prim.Native.Nat.{ℕ, _<_, _^_}
 use lib.Bits.{bitOr}
 use lib.Dec.{ltb}
-use Rattle.block.proofs.Either.{or-test}
+use Rattle.polish.proofs.Either.{or-test}
 use Rattle.polish.specs.Write.{fitting}
 use Rattle.polish.specs.declared.Time.{Time}
 

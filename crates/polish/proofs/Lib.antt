@@ -1,3 +1,4 @@
+pub mod Either
 pub mod Bounds
 pub mod Register
 pub mod Parts
