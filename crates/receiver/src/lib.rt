@@ -8,7 +8,7 @@ ghost use Prim.Native.Nat.{_<_, _≤_};
 ghost use lib.ListN.{length};
 ghost use Rattle.receiver.specs.Changes.{sameLock, upTo, withFed, refusedStretch, stretchFrom, stretchOf, runToChange};
 ghost use Rattle.receiver.specs.Runs.{ended, runOf, fedOf};
-ghost use Rattle.receiver.specs.States.{freshOf, stateOf};
+ghost use Rattle.receiver.specs.States.{freshOf};
 use record::Record;
 use refusal::Refusal;
 use states::is_proper;
