@@ -1,8 +1,8 @@
 -- What reading answers, test by test, in terms of what the code looks at: the number of all fifty bits, and their division.
 -- Assumes nothing.
-use mathlib.Core.Path.{_≡_, ap, _∙_, subst}
+use mathlib.Core.Path.{_≡_, sym, ap, ap₂, _∙_, subst}
 use mathlib.Core.Bool.{true, false}
-use mathlib.Core.List.{List, [], _∷_, _++_}
+use mathlib.Core.List.{List, _++_}
 use Prim.Native.Nat.{ℕ, _≤_, _<_, _+_, _*_, _/_, _%_, _^_}
 use native.Mathlib.Omega.{arith}
 use borrow.Author.Tests.{eq-eqb, ne-eqb}
@@ -10,12 +10,13 @@ use lib.ListN.{length, take, drop, length-take, length-drop}
 use lib.Seq.{take-add, drop-drop}
 use Rattle.refusal.specs.declared.Refusal.the-variants.{NotABit, WrongLength, WrongPrefix, WrongCheckWord}
 use Rattle.block.specs.Bits.{Bits, areBits, value}
-use Rattle.block.specs.Division.{generator, stepBit, remainderFrom, remainder}
+use Rattle.block.specs.Division.{generator, remainderFrom, remainder}
 use Rattle.block.specs.Block.{Good, prefixIn, codeIn, wordIn, checkIn, bodyIn, checkOf}
 use Rattle.block.specs.Read.{readOf}
 use Rattle.block.specs.declared.Read.the-variants.{Block, Refused}
 use Rattle.block.proofs.Strings.{next, parts, are-bits, bits-are, bits-at, bits-take, bits-drop, val-cons, val-lt, val-top, val-low}
 use Rattle.block.proofs.CheckWord.{check-none, none-check, good-rem}
+use Rattle.block.proofs.Inverted.{preset, without}
 
 module _ (s : List ℕ) where
   pub wrong-length : (length s ≡ 50 → ⊥) → Refused WrongLength ≡ readOf s
@@ -46,12 +47,6 @@ module _ (s : List ℕ) where
 pub good-reads : (s : List ℕ) → Good s → Block (value (codeIn s)) (value (wordIn s)) ≡ readOf s
 good-reads s g = a-block s (g .size) (bits-are s (g .bits)) (g .prefix) (good-rem s g)
 
--- a register that holds half the generator: the prefix 1 brings up the whole generator, and nothing of the two is left
-pub preset : (s : List ℕ) → prefixIn s ≡ 1 → remainderFrom (generator / 2) s ≡ remainder (drop 1 s)
-unfolding remainderFrom stepBit
-preset [] p = absurd (omega arith)
-preset (b ∷ bs) p = ap (λ (b : ℕ). remainderFrom (stepBit (generator / 2) b) bs) p
-
 -- the number of all fifty bits holds the prefix above the code above the word above the check word
 module _ (s : List ℕ) (l : length s ≡ 50) (h : Bits s) where
   rest-length : length (drop 1 s) ≡ 49
@@ -60,13 +55,13 @@ module _ (s : List ℕ) (l : length s ≡ 50) (h : Bits s) where
   rest-lt : value (drop 1 s) < 2 ^ 49
   rest-lt = subst (λ (n : ℕ). value (drop 1 s) < 2 ^ n) rest-length (val-lt (drop 1 s) (bits-drop 1 s h))
 
-  pub prefix-in : value s ≡ prefixIn s * 2 ^ 49 + value (drop 1 s)
+  prefix-in : value s ≡ prefixIn s * 2 ^ 49 + value (drop 1 s)
   prefix-in = ap value (next s 0 (omega arith)) ∙ val-cons (prefixIn s) (drop 1 s) ∙ ap (λ (n : ℕ). prefixIn s * 2 ^ n + value (drop 1 s)) rest-length
 
-  pub prefix-one : 2 ^ 49 ≤ value s → prefixIn s ≡ 1
+  prefix-one : 2 ^ 49 ≤ value s → prefixIn s ≡ 1
   prefix-one g = omega (arith, prefix-in, rest-lt, bits-at s 0 h)
 
-  pub code-in : value s / 2 ^ 45 % 16 ≡ value (codeIn s)
+  code-in : value s / 2 ^ 45 % 16 ≡ value (codeIn s)
   code-in =
       let e : value s / 2 ^ 45 % 16 ≡ value (drop 1 s) / 2 ^ 45 = omega (arith, prefix-in, rest-lt) in
       e ∙ ap (λ (t : List ℕ). value t / 2 ^ 45) (parts s 1 4) ∙ val-top (codeIn s) (drop 5 s) 45 (omega (arith, length-drop 5 s)) (bits-drop 5 s h)
@@ -74,10 +69,30 @@ module _ (s : List ℕ) (l : length s ≡ 50) (h : Bits s) where
   pub body-is : bodyIn s ≡ codeIn s ++ wordIn s
   body-is = take-add 4 32 (drop 1 s) ∙ ap (λ (t : List ℕ). codeIn s ++ take 32 t) (drop-drop 4 1 s)
 
-  pub word-in : value s / 2 ^ 13 % 2 ^ 32 ≡ value (wordIn s)
+  word-in : value s / 2 ^ 13 % 2 ^ 32 ≡ value (wordIn s)
   word-in =
       let e : value s / 2 ^ 13 % 2 ^ 32 ≡ value (drop 1 s) / 2 ^ 13 % 2 ^ 32 = omega (arith, prefix-in) in
       e ∙ ap (λ (n : ℕ). n % 2 ^ 32)
       (ap (λ (t : List ℕ). value t / 2 ^ 13) (parts s 1 36) ∙ val-top (bodyIn s) (checkIn s) 13 (omega (arith, length-drop 37 s)) (bits-drop 37 s h))
       ∙ ap (λ (t : List ℕ). value t % 2 ^ 32) body-is
       ∙ val-low (codeIn s) (wordIn s) 32 (simp (length-take, length-drop) (omega arith)) (bits-take 32 (drop 5 s) (bits-drop 5 s h))
+
+-- so this number and what a preset register holds after all fifty bits decide
+module _ (s : List ℕ) (l : length s ≡ 50) (a : areBits s ≡ true) (n : ℕ) (e : n ≡ value s) where
+  pub low-number : n < 2 ^ 49 → Refused WrongPrefix ≡ readOf s
+  low-number h = wrong-prefix s l a (λ p. omega (arith, e, p, prefix-in s l (are-bits s a)))
+
+  module _ (h : 2 ^ 49 ≤ n) (r : ℕ) (d : r ≡ remainderFrom (generator / 2) s) where
+    prefix : prefixIn s ≡ 1
+    prefix = prefix-one s l (are-bits s a) (omega arith)
+
+    behind : r ≡ remainder (drop 1 s)
+    behind = d ∙ preset s (are-bits s a) (omega arith) ∙ without s prefix
+
+    pub some-left : (r ≡ 0 → ⊥) → Refused WrongCheckWord ≡ readOf s
+    some-left f = wrong-check-word s l a prefix (λ z. f (behind ∙ z))
+
+    pub none-left : r ≡ 0 → Block (n / 2 ^ 45 % 16) (n / 2 ^ 13 % 2 ^ 32) ≡ readOf s
+    none-left z =
+        ap₂ Block (ap (λ (m : ℕ). m / 2 ^ 45 % 16) e ∙ code-in s l (are-bits s a)) (ap (λ (m : ℕ). m / 2 ^ 13 % 2 ^ 32) e ∙ word-in s l (are-bits s a))
+        ∙ a-block s l a prefix (sym behind ∙ z)

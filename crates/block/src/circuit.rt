@@ -10,7 +10,7 @@ ghost use Rattle.block.specs.Division.{stepBit, remainderFrom};
 // x^13+x^12+x^11+x^10+x^7+x^6+x^5+x^4+x^2+1, a digit for each power: below x^13, a 1 is a wire from the top back into that place.
 const GENERATOR: u32 = 0b11_1100_1111_0101;
 
-// What the register holds before a block is read: the prefix 1 then brings up the whole generator, and nothing of it is left.
+// What the register holds before a block is read: it inverts the first bit, so that nothing is left of the prefix 1.
 pub const PRESET: u32 = GENERATOR / 2;
 
 // What is left of a string: whether it was all bits, and where it was, the number that they write and what the register holds.

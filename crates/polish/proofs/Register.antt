@@ -7,7 +7,8 @@ use Prim.Native.Nat.{ℕ, _*_, _/_, _%_, _<_}
 use native.Mathlib.Omega.{arith}
 use lib.Bits.{bitXor, xor-lt}
 use lib.Dec.{T, eqb, ltb, eqb→eq, ltb→lt}
-use Rattle.block.proofs.Below.{both-left, both-right, at-below}
+use mir.Facts.{and-yes}
+use Rattle.block.proofs.Below.{at-below}
 use Rattle.polish.specs.Crc.{crcShifts, crcFrom}
 
 pub sum-lt : (register byte : ℕ) → (register < 256) × (byte < 256) → bitXor register byte < 256
@@ -32,7 +33,8 @@ pub moved-right : (n : ℕ) → n < 256 → (moved n < 256) × (moved n ≡ crcS
 moved-right n h =
     let small = ltb (moved n) 256 in
     let same = eqb (moved n) (crcShifts 8 n) in
-    (ltb→lt (moved n) 256 (both-left small same (right n h)), eqb→eq (moved n) (crcShifts 8 n) (both-right small same (right n h)))
+    let passed = and-yes small same (right n h) in
+    (ltb→lt (moved n) 256 (passed .0), eqb→eq (moved n) (crcShifts 8 n) (passed .1))
 
 -- one byte more through the register
 pub through : (r b n : ℕ) (bs : List ℕ) → n ≡ crcShifts 8 (bitXor r b) → crcFrom n bs ≡ crcFrom r (b ∷ bs)

@@ -11,9 +11,10 @@ use lib.Dec.{T, eqb, ltb, eqb→eq, ltb→lt}
 use lib.ListN.{length, take, drop, take-append-drop, length-drop}
 use lib.Pow.{mod-pow-add, pow-pos}
 use lib.Seq.{take-at, drop-append-seam}
+use mir.Facts.{and-yes}
 use Rattle.block.specs.Bits.{xors}
 use Rattle.block.proofs.Xor.{on-bit}
-use Rattle.block.proofs.Below.{at-below, both-left, both-right}
+use Rattle.block.proofs.Below.{at-below}
 use Rattle.block.proofs.Strings.{length-xors}
 use Rattle.field16.specs.Words.{Symbols, aTo, weight}
 use Rattle.field16.specs.Digits.{digits, number}
@@ -163,15 +164,16 @@ pub row : (place one two four eight : ℕ) → T (rowRight place one two four ei
 unfolding rowRight
 row place one two four eight t =
     let n = 2 ^ (place * 4) in
+    let third = isAsked (2 * n) two in
     let fourth = isAsked (4 * n) four in
     let last = isAsked (8 * n) eight in
-    let third = isAsked (2 * n) two in
-    let t1 = both-right (ltb place 9) (isAsked n one && (third && (fourth && last))) t in
-    let t2 = both-right (isAsked n one) (third && (fourth && last)) t1 in
-    let t3 = both-right third (fourth && last) t2 in (
-      ltb→lt place 9 (both-left (ltb place 9) (isAsked n one && (third && (fourth && last))) t),
-      asked-is n one (both-left (isAsked n one) (third && (fourth && last)) t1),
-      asked-is (2 * n) two (both-left third (fourth && last) t2),
-      asked-is (4 * n) four (both-left fourth last t3),
-      asked-is (8 * n) eight (both-right fourth last t3),
+    let t1 = and-yes (ltb place 9) (isAsked n one && (third && (fourth && last))) t in
+    let t2 = and-yes (isAsked n one) (third && (fourth && last)) (t1 .1) in
+    let t3 = and-yes third (fourth && last) (t2 .1) in
+    let t4 = and-yes fourth last (t3 .1) in (
+      ltb→lt place 9 (t1 .0),
+      asked-is n one (t2 .0),
+      asked-is (2 * n) two (t3 .0),
+      asked-is (4 * n) four (t4 .0),
+      asked-is (8 * n) eight (t4 .1),
     )
