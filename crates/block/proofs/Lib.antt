@@ -6,6 +6,8 @@ pub mod Below
 pub mod CheckWord
 pub mod Reading
 pub mod RoundTrip
+pub mod Packing
+pub mod Stream
 pub mod Taken
 pub mod Inverted
 pub mod Determined

@@ -1,29 +1,47 @@
 -- The remainder is linear in the bits: the division of a sum is the sum of the divisions, since each step of the circuit is.
 -- Assumes nothing.
-use mathlib.Core.Path.{_≡_, refl, sym, ap, _∙_}
+use mathlib.Core.Bool.{Bool, true, false}
+use mathlib.Core.Path.{_≡_, refl, sym, ap, ap₂, _∙_}
 use mathlib.Core.List.{List, [], _∷_}
 use Prim.Native.Nat.{ℕ, _+_, _*_, _/_, _<_}
 use native.Mathlib.Omega.{arith}
 use lib.ListN.{length}
-use lib.Bits.{bitXor, xor-shr, xor-block}
+use borrow.Author.Tests.{ltb-true, ltb-false}
+use lib.Bits.{bitXor, xor-lt, xor-shr, xor-block, xor-zero-r}
+use lib.Dec.{ltb}
 use Rattle.block.specs.Bits.{Bits, xors}
 use Rattle.block.specs.Division.{generator, reduce, stepBit, remainderFrom}
 use Rattle.block.proofs.Xor.{on-bit, sum-of-bits, xor-swap}
 
-reduce-xor : (n m : ℕ) → n < 16384 → m < 16384 → reduce (bitXor n m) ≡ bitXor (reduce n) (reduce m)
+-- below x^14 the generator is taken off as often as an x^13 has come up: once or not at all
+reduce-is : (n : ℕ) → n < 16384 → reduce n ≡ bitXor n (n / 8192 * generator)
 unfolding reduce
+reduce-is n h = by (ltb n 8192) refl
+  where
+    by : (t : Bool) → ltb n 8192 ≡ t → reduce n ≡ bitXor n (n / 8192 * generator)
+    by true e =
+        let z : n / 8192 ≡ 0 = omega (arith, ltb-true n 8192 e) in
+        rw (e, z) (sym (xor-zero-r n))
+    by false e =
+        let o : n / 8192 ≡ 1 = omega (arith, ltb-false n 8192 e) in
+        rw (e, o)
+
+reduce-xor : (n m : ℕ) → n < 16384 → m < 16384 → reduce (bitXor n m) ≡ bitXor (reduce n) (reduce m)
 reduce-xor n m hn hm =
-    ap (λ (x : ℕ). bitXor (bitXor n m) (x * generator)) (xor-shr n m 13)
+    reduce-is (bitXor n m) (xor-lt 14 n m hn hm) ∙ ap (λ (x : ℕ). bitXor (bitXor n m) (x * generator)) (xor-shr n m 13)
     ∙ ap (bitXor (bitXor n m)) (sum-of-bits (λ t. t * generator) refl (n / 8192) (m / 8192) (omega arith) (omega arith))
-    ∙ xor-swap n m (n / 8192 * generator) (m / 8192 * generator)
+    ∙ xor-swap n m (n / 8192 * generator) (m / 8192 * generator) ∙ sym (ap₂ bitXor (reduce-is n hn) (reduce-is m hm))
 
 -- the x^13 of the generator takes off the x^13 that came up
 reduce-lt : (n : ℕ) → n < 16384 → reduce n < 8192
-unfolding reduce
 reduce-lt n h =
     let e : bitXor n (n / 8192 * generator) / 8192 ≡ 0 =
     xor-shr n (n / 8192 * generator) 13 ∙ on-bit (λ t. bitXor t (t * generator / 8192) ≡ 0) refl refl (n / 8192) (omega arith) in
-    omega arith
+    omega (arith, reduce-is n h)
+
+pub step-is : (r b : ℕ) → r < 8192 → b < 2 → stepBit r b ≡ bitXor (r * 2 + b) ((r * 2 + b) / 8192 * generator)
+unfolding stepBit
+step-is r b hr hb = reduce-is (r * 2 + b) (omega arith)
 
 pub step-lt : (r b : ℕ) → r < 8192 → b < 2 → stepBit r b < 8192
 unfolding stepBit

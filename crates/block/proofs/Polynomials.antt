@@ -12,7 +12,7 @@ use lib.Pow.{shl-shr}
 use Rattle.block.specs.Bits.{Bits, value, valueFrom, xors, zeros}
 use Rattle.block.specs.Division.{generator, stepBit, remainderFrom, remainder}
 use Rattle.block.specs.Polynomials.{product, Factored, RemainderOf}
-use Rattle.block.proofs.Linear.{step-lt}
+use Rattle.block.proofs.Linear.{step-is, step-lt}
 use Rattle.block.proofs.Strings.{bits-append, bits-xors, bits-zeros, length-xors, rem-lt}
 use Rattle.block.proofs.Xor.{sum-of-bits, xor-assoc, xor-swap, xor-cancel, xor-eq}
 
@@ -47,16 +47,16 @@ val-xor (b ∷ bs) a c h =
     ∙ val-xor bs (a * 2 + 0) (c * 2 + b) (h .1)
     ∙ ap (λ (x : ℕ). bitXor x (valueFrom (c * 2 + b) bs)) e
 
-divided-from : (bs : List ℕ) (r : ℕ) → Bits bs → valueFrom r bs ≡ bitXor (product (quotientFrom r bs) generator) (remainderFrom r bs)
-unfolding valueFrom product remainderFrom quotientFrom stepBit
-divided-from [] r h = sym (xor-zero-l r)
-divided-from (b ∷ bs) r h =
+divided-from : (bs : List ℕ) (r : ℕ) → r < 8192 → Bits bs → valueFrom r bs ≡ bitXor (product (quotientFrom r bs) generator) (remainderFrom r bs)
+unfolding valueFrom product remainderFrom quotientFrom
+divided-from [] r hr h = sym (xor-zero-l r)
+divided-from (b ∷ bs) r hr h =
     let n : ℕ = r * 2 + b in
     let off : ℕ = n / 8192 * generator in
     let qs : List ℕ = quotientFrom (stepBit r b) bs in
-    let taken : n ≡ bitXor off (stepBit r b) = sym (ap (bitXor off) (xor-comm n off) ∙ xor-cancel off n) in
+    let taken : n ≡ bitXor off (stepBit r b) = sym (ap (bitXor off) (step-is r b hr (h .0) ∙ xor-comm n off) ∙ xor-cancel off n) in
     ap (λ (v : ℕ). valueFrom v bs) taken ∙ val-xor bs off (stepBit r b) (h .1)
-    ∙ ap₂ bitXor (ap (λ (k : ℕ). off * 2 ^ k) (sym (quotient-length bs (stepBit r b)))) (divided-from bs (stepBit r b) (h .1))
+    ∙ ap₂ bitXor (ap (λ (k : ℕ). off * 2 ^ k) (sym (quotient-length bs (stepBit r b)))) (divided-from bs (stepBit r b) (step-lt r b hr (h .0)) (h .1))
     ∙ sym (xor-assoc (off * 2 ^ length qs) (product qs generator) (remainderFrom (stepBit r b) bs))
 
 pub remainder-is : (s : List ℕ) → Bits s → RemainderOf s (remainder s)
@@ -64,7 +64,7 @@ remainder-is s h =
     record {
       quotient = quotientFrom 0 s;
       bits = quotient-bits s 0 (omega arith) h;
-      whole = divided-from s 0 h;
+      whole = divided-from s 0 (omega arith) h;
       below = rem-lt s 0 (omega arith) h;
     }
 

@@ -1,22 +1,24 @@
--- What reading answers, test by test, in terms of what the code looks at: the number of all fifty bits, and their division.
+-- What reading answers, test by test, in terms of what the code looks at: the number of all fifty bits, and the division of those
+-- behind the prefix.
 -- Assumes nothing.
-use mathlib.Core.Path.{_≡_, sym, ap, ap₂, _∙_, subst}
-use mathlib.Core.Bool.{true, false}
+use mathlib.Core.Path.{_≡_, refl, sym, ap, ap₂, _∙_, subst}
+use mathlib.Core.Bool.{Bool, true, false}
 use mathlib.Core.List.{List, _++_}
 use Prim.Native.Nat.{ℕ, _≤_, _<_, _+_, _*_, _/_, _%_, _^_}
 use native.Mathlib.Omega.{arith}
-use borrow.Author.Tests.{eq-eqb, ne-eqb}
+use borrow.Author.Tests.{eq-eqb, ne-eqb, eqb-true, eqb-false, leb-true, leb-false, lt-ltb, le-ltb}
+use lib.Dec.{eqb, leb}
 use lib.ListN.{length, take, drop, length-take, length-drop}
 use lib.Seq.{take-add, drop-drop}
-use Rattle.refusal.specs.declared.Refusal.the-variants.{NotABit, WrongLength, WrongPrefix, WrongCheckWord}
-use Rattle.block.specs.Bits.{Bits, areBits, value}
-use Rattle.block.specs.Division.{generator, remainderFrom, remainder}
+use Rattle.refusal.specs.declared.Refusal.the-variants.{NotABit, WrongLength, WrongPrefix, WrongCheckWord, NumberTooWide}
+use Rattle.block.specs.Bits.{Bits, areBits, bitsOf, value}
+use Rattle.block.specs.Division.{remainder}
 use Rattle.block.specs.Block.{Good, prefixIn, codeIn, wordIn, checkIn, bodyIn, checkOf}
+use Rattle.block.specs.Packed.{readPacked, readBy}
 use Rattle.block.specs.Read.{readOf}
 use Rattle.block.specs.declared.Read.the-variants.{Block, Refused}
-use Rattle.block.proofs.Strings.{next, parts, are-bits, bits-are, bits-at, bits-take, bits-drop, val-cons, val-lt, val-top, val-low}
+use Rattle.block.proofs.Strings.{next, parts, are-bits, bits-are, bits-at, bits-take, bits-drop, bits-bitsOf, length-bitsOf, bitsOf-first, bitsOf-val, val-bitsOf, val-cons, val-lt, val-top, val-low}
 use Rattle.block.proofs.CheckWord.{check-none, none-check, good-rem}
-use Rattle.block.proofs.Inverted.{preset, without}
 
 module _ (s : List ℕ) where
   pub wrong-length : (length s ≡ 50 → ⊥) → Refused WrongLength ≡ readOf s
@@ -77,22 +79,38 @@ module _ (s : List ℕ) (l : length s ≡ 50) (h : Bits s) where
       ∙ ap (λ (t : List ℕ). value t % 2 ^ 32) body-is
       ∙ val-low (codeIn s) (wordIn s) 32 (simp (length-take, length-drop) (omega arith)) (bits-take 32 (drop 5 s) (bits-drop 5 s h))
 
--- so this number and what a preset register holds after all fifty bits decide
-module _ (s : List ℕ) (l : length s ≡ 50) (a : areBits s ≡ true) (n : ℕ) (e : n ≡ value s) where
-  pub low-number : n < 2 ^ 49 → Refused WrongPrefix ≡ readOf s
-  low-number h = wrong-prefix s l a (λ p. omega (arith, e, p, prefix-in s l (are-bits s a)))
+-- so this number and what is left of the bits behind the prefix decide
+module _ (s : List ℕ) (l : length s ≡ 50) (a : areBits s ≡ true) (n left : ℕ) (e : n ≡ value s) (d : left ≡ remainder (drop 1 s)) where
+  prefix : leb (2 ^ 49) n ≡ true → prefixIn s ≡ 1
+  prefix k = prefix-one s l (are-bits s a) (omega (arith, leb-true (2 ^ 49) n k))
 
-  module _ (h : 2 ^ 49 ≤ n) (r : ℕ) (d : r ≡ remainderFrom (generator / 2) s) where
-    prefix : prefixIn s ≡ 1
-    prefix = prefix-one s l (are-bits s a) (omega arith)
+  said : Block (n / 2 ^ 45 % 16) (n / 2 ^ 13 % 2 ^ 32) ≡ Block (value (codeIn s)) (value (wordIn s))
+  said = ap₂ Block (ap (λ (m : ℕ). m / 2 ^ 45 % 16) e ∙ code-in s l (are-bits s a)) (ap (λ (m : ℕ). m / 2 ^ 13 % 2 ^ 32) e ∙ word-in s l (are-bits s a))
 
-    behind : r ≡ remainder (drop 1 s)
-    behind = d ∙ preset s (are-bits s a) (omega arith) ∙ without s prefix
+  by-number : readBy n left ≡ readOf s
+  unfolding readBy
+  by-number = by (leb (2 ^ 49) n) (eqb left 0) refl refl
+    where
+      by : (high none : Bool) → leb (2 ^ 49) n ≡ high → eqb left 0 ≡ none → readBy n left ≡ readOf s
+      by false none k z = rw k (wrong-prefix s l a (λ p. omega (arith, e, p, leb-false (2 ^ 49) n k, prefix-in s l (are-bits s a))))
+      by true false k z = rw (k, z) (wrong-check-word s l a (prefix k) (λ q. eqb-false left 0 z (d ∙ q)))
+      by true true k z = rw (k, z) (said ∙ a-block s l a (prefix k) (sym d ∙ eqb-true left 0 z))
 
-    pub some-left : (r ≡ 0 → ⊥) → Refused WrongCheckWord ≡ readOf s
-    some-left f = wrong-check-word s l a prefix (λ z. f (behind ∙ z))
+pub number-reads : (n : ℕ) → n < 2 ^ 50 → readBy n (remainder (bitsOf 49 n)) ≡ readOf (bitsOf 50 n)
+number-reads n h =
+    by-number (bitsOf 50 n) (length-bitsOf 50 n) (bits-are (bitsOf 50 n) (bits-bitsOf 50 n)) n (remainder (bitsOf 49 n)) (sym (val-bitsOf 50 n h))
+    (ap (λ (t : List ℕ). remainder (drop 1 t)) (sym (bitsOf-first 49 n)))
 
-    pub none-left : r ≡ 0 → Block (n / 2 ^ 45 % 16) (n / 2 ^ 13 % 2 ^ 32) ≡ readOf s
-    none-left z =
-        ap₂ Block (ap (λ (m : ℕ). m / 2 ^ 45 % 16) e ∙ code-in s l (are-bits s a)) (ap (λ (m : ℕ). m / 2 ^ 13 % 2 ^ 32) e ∙ word-in s l (are-bits s a))
-        ∙ a-block s l a prefix (sym behind ∙ z)
+-- ---- as one number
+
+pub wide : (n : ℕ) → 2 ^ 50 ≤ n → Refused NumberTooWide ≡ readPacked n
+unfolding readPacked
+wide n h = rw (le-ltb n (2 ^ 50) h)
+
+pub reads-as : (n : ℕ) → n < 2 ^ 50 → readPacked n ≡ readOf (bitsOf 50 n)
+unfolding readPacked
+reads-as n h = rw (lt-ltb n (2 ^ 50) h)
+
+-- the number of fifty bits reads as they do
+pub packed-reads : (s : List ℕ) → length s ≡ 50 → Bits s → readPacked (value s) ≡ readOf s
+packed-reads s l h = reads-as (value s) (subst (λ (k : ℕ). value s < 2 ^ k) l (val-lt s h)) ∙ ap readOf (bitsOf-val 50 s h l)

@@ -1,6 +1,6 @@
 -- What is written: the bits of one number, a good block, which reads back; and what is taken as a block is what is written.
 -- Assumes nothing.
-use mathlib.Core.List.{List, [], _∷_, _++_, append-assoc}
+use mathlib.Core.List.{List, _∷_, _++_, append-assoc}
 use mathlib.Core.Path.{_≡_, refl, sym, ap, ap₂, _∙_}
 use Prim.Native.Nat.{ℕ, _<_, _+_, _*_, _^_}
 use native.Mathlib.Omega.{arith}
@@ -12,11 +12,7 @@ use Rattle.block.specs.Read.{readOf}
 use Rattle.block.specs.declared.Read.the-variants.{Block}
 use Rattle.block.proofs.CheckWord.{check-lt}
 use Rattle.block.proofs.Reading.{good-reads}
-use Rattle.block.proofs.Strings.{bits-append, bits-bitsOf, bitsOf-join, length-bitsOf, thirteen-zeros, val-bitsOf}
-
-one : bitsOf 1 1 ≡ 1 ∷ []
-unfolding bitsOf
-one = refl
+use Rattle.block.proofs.Strings.{bits-append, bits-bitsOf, bitsOf-above, bitsOf-join, length-bitsOf, thirteen-zeros, val-bitsOf, val-cons, val-join}
 
 module _ (code word : ℕ) where
   pub length-body : length (bodyOf code word) ≡ 36
@@ -35,18 +31,25 @@ module _ (code word : ℕ) where
   unfolding bodyOf
   body-number hw = bitsOf-join 4 32 code word hw
 
-  -- the prefix, code and word, with zeros where the check word goes
-  pub open-block : code < 16 → word < 2 ^ 32 → bitsOf 50 (2 ^ 49 + (code * 2 ^ 32 + word) * 2 ^ 13) ≡ 1 ∷ (bodyOf code word ++ zeros 13)
-  open-block hc hw =
+  -- behind the prefix they stand above thirteen zeros
+  pub open-body : word < 2 ^ 32 → code < 16 → bitsOf 49 (2 ^ 49 + (code * 2 ^ 32 + word) * 2 ^ 13) ≡ bodyOf code word ++ zeros 13
+  open-body hw hc =
       let b : ℕ = code * 2 ^ 32 + word in
       let e : 2 ^ 49 + b * 2 ^ 13 ≡ 1 * 2 ^ 49 + (b * 2 ^ 13 + 0) = omega arith in
-      ap (bitsOf 50) e ∙ bitsOf-join 1 49 1 (b * 2 ^ 13 + 0) (omega arith)
-      ∙ ap₂ (λ (x y : List ℕ). x ++ y) one (bitsOf-join 36 13 b 0 (omega arith) ∙ ap₂ (λ (x y : List ℕ). x ++ y) (body-number hw) thirteen-zeros)
+      ap (bitsOf 49) e ∙ bitsOf-above 49 1 (b * 2 ^ 13 + 0) (omega arith)
+      ∙ bitsOf-join 36 13 b 0 (omega arith) ∙ ap₂ (λ (x y : List ℕ). x ++ y) (body-number hw) thirteen-zeros
 
-  -- the check word over those zeros closes it
-  pub closed : take 37 (1 ∷ (bodyOf code word ++ zeros 13)) ++ bitsOf 13 (checkOf (bodyOf code word)) ≡ blockOf code word
+  -- and the check word takes the place of the zeros
+  pub block-number : word < 2 ^ 32 → code < 16 → value (blockOf code word) ≡ 2 ^ 49 + (code * 2 ^ 32 + word) * 2 ^ 13 + checkOf (bodyOf code word)
   unfolding blockOf
-  closed = ap (λ (l : List ℕ). 1 ∷ (l ++ bitsOf 13 (checkOf (bodyOf code word)))) (take-at (bodyOf code word) (zeros 13) 36 length-body)
+  block-number hw hc =
+      let b : List ℕ = bodyOf code word in
+      let k : ℕ = checkOf b in
+      let rest : List ℕ = b ++ bitsOf 13 k in
+      let size : length rest ≡ 49 = omega (arith, length-append b (bitsOf 13 k), length-bitsOf 13 k, length-body) in
+      let body : value b ≡ code * 2 ^ 32 + word = ap value (sym (body-number hw)) ∙ val-bitsOf 36 (code * 2 ^ 32 + word) (omega arith) in
+      let joined : value rest ≡ value b * 2 ^ 13 + value (bitsOf 13 k) = val-join b (bitsOf 13 k) 13 (length-bitsOf 13 k) (bits-bitsOf 13 k) in
+      val-cons 1 rest ∙ ap₂ (λ (n v : ℕ). 1 * 2 ^ n + v) size (joined ∙ ap₂ (λ (x y : ℕ). x * 2 ^ 13 + y) body (val-bitsOf 13 k body-check-lt)) ∙ omega arith
 
   pub written-good : Good (blockOf code word)
   unfolding blockOf

@@ -143,7 +143,7 @@ val-bitsOf (suc k) n h =
 
 -- a string's number is that of its first part above that of its last k bits
 module _ (xs ys : List ℕ) (k : ℕ) (l : length ys ≡ k) (h : Bits ys) where
-  val-join : value (xs ++ ys) ≡ value xs * 2 ^ k + value ys
+  pub val-join : value (xs ++ ys) ≡ value xs * 2 ^ k + value ys
   val-join = val-append xs ys 0 ∙ val-from ys (value xs) ∙ ap (λ (n : ℕ). value xs * 2 ^ n + value ys) l
 
   below : value ys < 2 ^ k
@@ -171,16 +171,30 @@ bitsOf-join j (suc k) a b h =
     ∙ ap (λ (l : List ℕ). l ++ (b % 2 ∷ [])) (bitsOf-join j k a (b / 2) (omega arith))
     ∙ append-assoc (bitsOf j a) (bitsOf k (b / 2)) (b % 2 ∷ [])
 
--- the highest of the lowest bits stands first
-pub bitsOf-first : (k n : ℕ) → bitsOf (suc k) n ≡ n / 2 ^ k % 2 ∷ bitsOf k n
+-- the j + k lowest bits are the j above the k lowest, and these
+pub bitsOf-cut : (j k n : ℕ) → bitsOf (j + k) n ≡ bitsOf j (n / 2 ^ k) ++ bitsOf k n
 unfolding bitsOf
-bitsOf-first k n =
+bitsOf-cut j k n =
     let b : ℕ = n % 2 ^ k in
     let h : b < 2 ^ k = mod-lt n (pow-pos k) in
     let e : n ≡ n / 2 ^ k * 2 ^ k + b = sym (div-add-mod' n (2 ^ k)) in
-    let d : suc k ≡ 1 + k = omega arith in
-    ap₂ bitsOf d e ∙ bitsOf-join 1 k (n / 2 ^ k) b h
-    ∙ ap (λ (l : List ℕ). n / 2 ^ k % 2 ∷ l) (sym (bitsOf-join 0 k (n / 2 ^ k) b h) ∙ ap₂ bitsOf (zero-add k) (sym e))
+    ap (bitsOf (j + k)) e ∙ bitsOf-join j k (n / 2 ^ k) b h
+    ∙ ap (λ (l : List ℕ). bitsOf j (n / 2 ^ k) ++ l) (sym (bitsOf-join 0 k (n / 2 ^ k) b h) ∙ ap₂ bitsOf (zero-add k) (sym e))
+
+-- the highest of the lowest bits stands first
+pub bitsOf-first : (k n : ℕ) → bitsOf (suc k) n ≡ n / 2 ^ k % 2 ∷ bitsOf k n
+unfolding bitsOf
+bitsOf-first k n = let d : suc k ≡ 1 + k = omega arith in ap (λ (j : ℕ). bitsOf j n) d ∙ bitsOf-cut 1 k n
+
+-- what stands above the k lowest bits is not among them
+pub bitsOf-above : (k a b : ℕ) → b < 2 ^ k → bitsOf k (a * 2 ^ k + b) ≡ bitsOf k b
+unfolding bitsOf
+bitsOf-above k a b h = ap (λ (j : ℕ). bitsOf j (a * 2 ^ k + b)) (sym (zero-add k)) ∙ bitsOf-join 0 k a b h
+
+pub val-mod : (k n : ℕ) → value (bitsOf k n) ≡ n % 2 ^ k
+val-mod k n =
+    let h : n % 2 ^ k < 2 ^ k = mod-lt n (pow-pos k) in
+    ap value (ap (bitsOf k) (sym (div-add-mod' n (2 ^ k))) ∙ bitsOf-above k (n / 2 ^ k) (n % 2 ^ k) h) ∙ val-bitsOf k (n % 2 ^ k) h
 
 pub thirteen-zeros : bitsOf 13 0 ≡ zeros 13
 unfolding bitsOf
@@ -237,15 +251,11 @@ rem-lt (b ∷ bs) r hr h = rem-lt bs (stepBit r b) (step-lt r b hr (h .0)) (h .1
 -- a turn of the circuit: where no x^13 comes up nothing is fed back, and so the remainder is the value
 pub step-small : (r b : ℕ) → r * 2 + b < 8192 → stepBit r b ≡ r * 2 + b
 unfolding stepBit
-step-small r b h =
-    let e : (r * 2 + b) / 8192 ≡ 0 = omega arith in
-    ap (λ (t : ℕ). bitXor (r * 2 + b) (t * generator)) e ∙ xor-zero-r (r * 2 + b)
+step-small r b h = rw (lt-ltb (r * 2 + b) 8192 h)
 
-pub step-fed : (r b : ℕ) → 8192 ≤ r * 2 + b → r * 2 + b < 16384 → stepBit r b ≡ bitXor (r * 2 + b) generator
+pub step-fed : (r b : ℕ) → 8192 ≤ r * 2 + b → stepBit r b ≡ bitXor (r * 2 + b) generator
 unfolding stepBit
-step-fed r b h k =
-    let e : (r * 2 + b) / 8192 ≡ 1 = omega arith in
-    ap (λ (t : ℕ). bitXor (r * 2 + b) (t * generator)) e
+step-fed r b h = rw (le-ltb (r * 2 + b) 8192 h)
 
 pub rem-small : (bs : List ℕ) (r : ℕ) → valueFrom r bs < 8192 → remainderFrom r bs ≡ valueFrom r bs
 unfolding remainderFrom valueFrom
@@ -273,6 +283,14 @@ xors-zeros (b ∷ bs) = ap (λ (l : List ℕ). b ∷ l) (xors-zeros bs)
 -- the remainder of at most 13 bits is their value
 pub rem-val : (bs : List ℕ) → Bits bs → length bs ≤ 13 → remainder bs ≡ value bs
 rem-val bs h l = rem-small bs 0 (omega (arith, val-lt bs h, pow-mono l))
+
+-- the first thirteen bits of a number's lowest fill the register as they are
+pub rem-filled : (k n : ℕ) → remainder (bitsOf (13 + k) n) ≡ remainderFrom (n / 2 ^ k % 8192) (bitsOf k n)
+rem-filled k n =
+    let first : List ℕ = bitsOf 13 (n / 2 ^ k) in
+    ap remainder (bitsOf-cut 13 k n) ∙ rem-append first (bitsOf k n) 0
+    ∙ ap (λ (r : ℕ). remainderFrom r (bitsOf k n))
+    (rem-val first (bits-bitsOf 13 (n / 2 ^ k)) (omega (arith, length-bitsOf 13 (n / 2 ^ k))) ∙ val-mod 13 (n / 2 ^ k))
 
 -- what the register holds and what the string brings, apart
 pub rem-split : (bs : List ℕ) (r : ℕ) → r < 8192 → Bits bs → remainderFrom r bs ≡ bitXor (remainderFrom r (zeros (length bs))) (remainder bs)

@@ -2,8 +2,10 @@
 -- A remainder is a number below 8,192, its highest bit the coefficient of x^12; the sum of two is `bitXor`.
 -- Assumes nothing.
 use mathlib.Core.List.{List, [], _∷_}
-use Prim.Native.Nat.{ℕ, _+_, _*_, _/_}
+use mathlib.Core.Bool.{cond}
+use Prim.Native.Nat.{ℕ, _+_, _*_}
 use lib.Bits.{bitXor}
+use lib.Dec.{ltb}
 
 -- x^13+x^12+x^11+x^10+x^7+x^6+x^5+x^4+x^2+1 (01, "The block"), a digit for each power from x^13 down
 abbrev pub generator : ℕ
@@ -11,7 +13,7 @@ generator = 0b11_1100_1111_0101
 
 -- the generator is taken off where an x^13 has come up
 unfoldable pub reduce : ℕ → ℕ
-reduce n = bitXor n (n / 8192 * generator)
+reduce n = cond (ltb n 8192) n (bitXor n generator)
 
 -- one bit through the circuit: the register moves up one place and the bit comes in below
 unfoldable pub stepBit : ℕ → ℕ → ℕ

@@ -5,3 +5,4 @@ pub mod Block
 pub mod Read
 pub mod Write
 pub mod Choose
+pub mod Packed

@@ -1,22 +1,19 @@
-// The block of fifty bits: reading, writing, and choosing between two aerials.
-mod circuit;
+// The block of fifty bits, as one number and in memory: reading, writing, and choosing between two aerials.
+pub mod circuit;
 mod memory;
 
 ghost use mathlib.Core.List.{[]};
 ghost use mathlib.Core.Path.{_≡_};
-ghost use Prim.Native.Nat.{_<_};
 ghost use lib.ListN.{length};
-ghost use Rattle.block.specs.Block.{blockOf};
-ghost use Rattle.block.specs.Choose.{choiceOf, chosen, told};
+ghost use Rattle.block.specs.Choose.{between, choiceOf, chosen, told};
+ghost use Rattle.block.specs.Packed.{readBy, readPacked, writePacked, choosePacked, packOf, unpackOf, unpackedOf};
 ghost use Rattle.block.specs.Read.{readOf};
 ghost use Rattle.block.specs.Write.{writeOf, writtenOf};
-use circuit::PRESET;
-use circuit::check_word;
-use circuit::divide;
+use circuit::remainder;
 use memory::store;
 use refusal::Refusal;
 
-// What reading a slice finds.
+// What reading a block finds.
 pub enum Read {
     Block { code: u8, word: u32 },
     Refused(Refusal),
@@ -28,45 +25,121 @@ pub enum Written {
     Refused(Refusal),
 }
 
-// Which of two slices is chosen; where neither is, why the first is refused.
+// A block as one number: the first bit in place 49, and nothing above.
+pub enum Packed {
+    Number(u64),
+    Refused(Refusal),
+}
+
+// Which of two blocks is chosen; where neither is, why the first is refused.
 pub enum Choice {
     First,
     Second,
     Neither(Refusal),
 }
 
+// ---- as one number
+
+// The code and the word of a block's number, where the remainder of what stands behind the prefix is known.
+pub fn read_by(block: u64, left: u32) -> Read
+    ensures { λ r. ⌜ r ≡ readBy block left ⌝ }
+{
+    if block < 0x2_0000_0000_0000 {
+        return Read::Refused(Refusal::WrongPrefix);
+    }
+    if left != 0 {
+        return Read::Refused(Refusal::WrongCheckWord);
+    }
+    let code = (block / 0x2000_0000_0000 % 16) as u8;
+    let word = (block / 0x2000 % 0x1_0000_0000) as u32;
+    Read::Block { code, word }
+}
+
+// The code and the word of a block.
+pub fn read_packed(block: u64) -> Read
+    ensures { λ r. ⌜ r ≡ readPacked block ⌝ }
+{
+    if 0x3_FFFF_FFFF_FFFF < block {
+        return Read::Refused(Refusal::NumberTooWide);
+    }
+    read_by(block, remainder(block))
+}
+
+// The block of a code and a word. The prefix, the code and the word stand first, and what they leave is added below.
+pub fn write_packed(code: u8, word: u32) -> Packed
+    ensures { λ r. ⌜ r ≡ writePacked code word ⌝ }
+{
+    if 15 < code {
+        return Packed::Refused(Refusal::OutOfRange);
+    }
+    let body = (code as u64) * 0x1_0000_0000 + (word as u64);
+    let open = 0x2_0000_0000_0000 + body * 0x2000;
+    Packed::Number(open + (remainder(open) as u64))
+}
+
+fn between(one: Read, two: Read) -> Choice
+    ensures { λ r. ⌜ r ≡ between one two ⌝ }
+{
+    let Read::Refused(refusal) = one else {
+        return Choice::First;
+    };
+    match two {
+        Read::Block { code: _, word: _ } => Choice::Second,
+        Read::Refused(_) => Choice::Neither(refusal),
+    }
+}
+
+// Which of two aerials' numbers is a good block, the first before the second.
+pub fn choose_packed(first: u64, second: u64) -> Choice
+    ensures { λ r. ⌜ r ≡ choosePacked first second ⌝ }
+{
+    between(read_packed(first), read_packed(second))
+}
+
+// ---- in memory
+
+// Any fifty bits as one number.
+pub fn pack(bits: &[u8]) -> Packed
+    ensures { λ r. ⌜ r ≡ packOf (now (bits .entry)) ⌝ }
+{
+    if bits.len() != 50 {
+        return Packed::Refused(Refusal::WrongLength);
+    }
+    let mut number: u64 = 0;
+    let mut i: usize = 0;
+    while i < bits.len() {
+        let bit = bits[i];
+        if 1 < bit {
+            return Packed::Refused(Refusal::NotABit);
+        }
+        number = number * 2 + (bit as u64);
+        i += 1;
+    }
+    Packed::Number(number)
+}
+
+// The fifty bits of a number, into fifty places.
+pub fn unpack(block: u64, out: &mut [u8]) -> Written
+    ensures { λ r. ⌜ (r ≡ unpackOf (length (now (out .entry))) block) × (now (out .exit) ≡ unpackedOf (now (out .entry)) block) ⌝ }
+{
+    if out.len() != 50 {
+        return Written::Refused(Refusal::WrongLength);
+    }
+    if 0x3_FFFF_FFFF_FFFF < block {
+        return Written::Refused(Refusal::NumberTooWide);
+    }
+    store(out, block);
+    Written::Whole
+}
+
 // The code and the word of a block.
 pub fn read_block(block: &[u8]) -> Read
     ensures { λ r. ⌜ r ≡ readOf (now (block .entry)) ⌝ }
 {
-    if block.len() != 50 {
-        return Read::Refused(Refusal::WrongLength);
+    match pack(block) {
+        Packed::Number(number) => read_packed(number),
+        Packed::Refused(refusal) => Read::Refused(refusal),
     }
-    let divided = divide(PRESET, block);
-    let number = divided.number;
-    if divided.bits {
-        if number < 0x2_0000_0000_0000 {
-            return Read::Refused(Refusal::WrongPrefix);
-        }
-        if divided.register != 0 {
-            return Read::Refused(Refusal::WrongCheckWord);
-        }
-        let code = (number / 0x2000_0000_0000 % 16) as u8;
-        let word = (number / 0x2000 % 0x1_0000_0000) as u32;
-        Read::Block { code, word }
-    } else {
-        Read::Refused(Refusal::NotABit)
-    }
-}
-
-fn fill(out: &mut [u8], code: u8, word: u32)
-    requires { ⌜ (length (now out) ≡ 50) × (code < 16) ⌝ }
-    ensures { λ _. ⌜ now (out .exit) ≡ blockOf code word ⌝ }
-{
-    let body = (code as u64) * 0x1_0000_0000 + (word as u64);
-    let check = check_word(body);
-    store(out, 0x2_0000_0000_0000 + body * 0x2000);
-    store(&mut out[37..], check as u64);
 }
 
 // The block of a code and a word, into fifty places.
@@ -76,26 +149,17 @@ pub fn write_block(code: u8, word: u32, out: &mut [u8]) -> Written
     if out.len() != 50 {
         return Written::Refused(Refusal::WrongLength);
     }
-    if 15 < code {
-        return Written::Refused(Refusal::OutOfRange);
+    match write_packed(code, word) {
+        Packed::Number(number) => unpack(number, out),
+        Packed::Refused(refusal) => Written::Refused(refusal),
     }
-    fill(out, code, word);
-    Written::Whole
 }
 
 // Which of two aerials' slices holds a good block, the first before the second.
 pub fn choose_between(first: &[u8], second: &[u8]) -> Choice
     ensures { λ r. ⌜ r ≡ choiceOf (now (first .entry)) (now (second .entry)) ⌝ }
 {
-    let one = read_block(first);
-    let Read::Refused(refusal) = one else {
-        return Choice::First;
-    };
-    let two = read_block(second);
-    match two {
-        Read::Block { code: _, word: _ } => Choice::Second,
-        Read::Refused(_) => Choice::Neither(refusal),
-    }
+    between(read_block(first), read_block(second))
 }
 
 // The slice that is chosen, all fifty places, or the empty part at the first's start; the number tells which refusal.

@@ -10,7 +10,7 @@ use lib.Count.{ones, ones-step, ones-cat}
 use Rattle.block.specs.Bits.{Bits}
 use Rattle.block.specs.Division.{generator, stepBit, remainderFrom, remainder}
 use Rattle.block.proofs.Xor.{on-bit}
-use Rattle.block.proofs.Linear.{step-lt}
+use Rattle.block.proofs.Linear.{step-is, step-lt}
 use Rattle.detection.specs.Damage.{weight}
 
 xor-sum : (x y : ℕ) → x < 2 → y < 2 → bitXor x y ≡ (x + y) % 2
@@ -40,10 +40,9 @@ unfolding ones
 ones-generator t h = on-bit (λ t. ones (t * generator) % 2 ≡ 0) refl (ap (λ (n : ℕ). n % 2) (ones-cat 7 121 117 (omega arith))) t h
 
 ones-step-bit : (r b : ℕ) → r < 8192 → b < 2 → ones (stepBit r b) % 2 ≡ (ones r + b) % 2
-unfolding stepBit
 ones-step-bit r b hr hb =
     let n : ℕ = r * 2 + b in
-    omega (arith, ones-xor n (n / 8192 * generator), ones-generator (n / 8192) (omega arith), ones-cat 1 r b hb, ones-bit b hb)
+    omega (arith, ap ones (step-is r b hr hb), ones-xor n (n / 8192 * generator), ones-generator (n / 8192) (omega arith), ones-cat 1 r b hb, ones-bit b hb)
 
 rem-ones : (bs : List ℕ) (r : ℕ) → r < 8192 → Bits bs → ones (remainderFrom r bs) % 2 ≡ (ones r + weight bs) % 2
 unfolding remainderFrom

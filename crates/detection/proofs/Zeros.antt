@@ -8,15 +8,14 @@ use lib.ListN.{replicate-append-replicate}
 use Rattle.block.specs.Bits.{Bits, zeros}
 use Rattle.block.specs.Division.{generator, stepBit, remainderFrom, remainder}
 use Rattle.block.proofs.Xor.{on-bit, xor-eq}
-use Rattle.block.proofs.Linear.{step-lt}
+use Rattle.block.proofs.Linear.{step-is, step-lt}
 use Rattle.block.proofs.Strings.{rem-append, rem-lt}
 
 -- the generator is odd, and what moved up one place is even
 step-zero : (r : ℕ) → r < 8192 → stepBit r 0 ≡ 0 → r ≡ 0
-unfolding stepBit
 step-zero r h e =
     let n : ℕ = r * 2 + 0 in
-    on-bit (λ t. n ≡ t * generator → r ≡ 0) (λ d. omega arith) (λ d. omega arith) (n / 8192) (omega arith) (xor-eq n (n / 8192 * generator) e)
+    on-bit (λ t. n ≡ t * generator → r ≡ 0) (λ d. omega arith) (λ d. omega arith) (n / 8192) (omega arith) (xor-eq n (n / 8192 * generator) (sym (step-is r 0 h (omega arith)) ∙ e))
 
 rem-zero : (n r : ℕ) → r < 8192 → remainderFrom r (zeros n) ≡ 0 → r ≡ 0
 unfolding remainderFrom

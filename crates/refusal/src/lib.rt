@@ -24,6 +24,8 @@ pub enum Refusal {
     RunTooLong,
     // The lent state is not proper.
     Improper,
+    // A block's number has a bit above place 49.
+    NumberTooWide,
     // A frame is not 12 long, or a field to be written is too wide.
     WrongSize,
     // A fixed bit of a frame is wrong.
@@ -49,6 +51,7 @@ pub fn number(refusal: Refusal) -> u8
         Refusal::WrongYear => 8,
         Refusal::RunTooLong => 9,
         Refusal::Improper => 10,
+        Refusal::NumberTooWide => 14,
         Refusal::WrongSize => 19,
         Refusal::WrongFixedBits => 20,
         Refusal::NoCodeword => 21,

@@ -1,53 +1,45 @@
--- `read_block` meets its contract: each return is the answer of the tests that led there.
+-- `read_block` meets its contract: fifty bits read as their number does, and what does not pack is refused for the same reason.
 -- Assumes nothing.
 use borrow.Author.Needs.{needs}
-use mathlib.Core.Path.{sym, _∙_}
-use native.Mathlib.Omega.{arith}
-use Rattle.block.proofs.Reading.{wrong-length, not-a-bit, low-number, some-left, none-left}
+use mathlib.Core.Path.{sym, ap, _∙_}
+use Rattle.block.specs.Packed.{readPacked}
+use Rattle.block.proofs.Packing.{packs, packs-not}
+use Rattle.block.proofs.Reading.{packed-reads}
 use Rattle.block.proofs.read_block.Statement.{statement}
 use Rattle.block.proofs.read_block.Tie as tie
 
-returns : tie.Need-returns
-returns c = wrong-length (c .before .before .args .block .now) (c .if1 .taken)
+pack-requires : tie.Need-pack-requires
+pack-requires c κs = search needs
 
-divide-requires : tie.Need-divide-requires
-divide-requires c κs = search needs
+enum-known-number : tie.Need-enum-known-number
+enum-known-number c = search needs
+
+read-packed-requires : tie.Need-read-packed-requires
+read-packed-requires c κs = search needs
+
+enum-known-refusal : tie.Need-enum-known-refusal
+enum-known-refusal c = search needs
+
+returns : tie.Need-returns
+returns c =
+    let number = c .before .before in
+    let packed = number .before .before in
+    let s = packed .before .before .args .block .now in
+    let p = packs s _ (sym (packed .pack .ensures) ∙ number .number .given .1) in
+    c .read-packed .ensures ∙ ap readPacked (sym (p .number)) ∙ packed-reads s (p .size) (p .bits)
 
 returns-2 : tie.Need-returns-2
 returns-2 c =
-    let divide = c .before .before in
-    let s = divide .before .before .before .args .block .now in
-    let taken = c .before .if2 .taken in
-    low-number s (omega arith) (sym (divide .divide .ensures .0) ∙ taken) _ (divide .divide .ensures .1 taken .0) (omega arith)
-
-returns-3 : tie.Need-returns-3
-returns-3 c =
-    let divide = c .before .before .before .before in
-    let s = divide .before .before .before .args .block .now in
-    let taken = c .before .before .before .if2 .taken in
-    let whole = divide .divide .ensures .1 taken in
-    some-left s (omega arith) (sym (divide .divide .ensures .0) ∙ taken) _ (whole .0) (omega arith) _ (whole .1) (c .if4 .taken)
-
-cast-code : tie.Need-cast-code
-cast-code c = search needs
-
-cast-word : tie.Need-cast-word
-cast-word c = search needs
-
-returns-4 : tie.Need-returns-4
-returns-4 c =
-    let divide = c .before .before .before .before in
-    let s = divide .before .before .before .args .block .now in
-    let taken = c .before .before .before .if2 .taken in
-    let whole = divide .divide .ensures .1 taken in
-    none-left s (omega arith) (sym (divide .divide .ensures .0) ∙ taken) _ (whole .0) (omega arith) _ (whole .1) (c .if4 .left)
-
-returns-5 : tie.Need-returns-5
-returns-5 c =
-    let s = c .before .before .before .before .args .block .now in
-    not-a-bit s (omega arith) (sym (c .before .divide .ensures .0) ∙ c .if2 .left)
+    let packed = c .before .before .before in
+    sym (packs-not (packed .before .before .args .block .now) _ (sym (packed .pack .ensures) ∙ c .before .refusal .given .1))
 
 pub read-block-spec : {M : Type 1} → statement M
 read-block-spec =
     tie.close
-    (tie.spec returns divide-requires returns-2 returns-3 cast-code cast-word returns-4 returns-5)
+    (tie.spec
+    pack-requires
+    enum-known-number
+    read-packed-requires
+    enum-known-refusal
+    returns
+    returns-2)

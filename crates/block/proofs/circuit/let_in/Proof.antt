@@ -1,10 +1,11 @@
 -- `let_in` meets its contract. The loop's invariant: the division of the bits that are left goes on to the same end.
 -- Assumes nothing.
+use borrow.Author.Needs.{needs}
 use mathlib.Core.Path.{_≡_, refl, sym, _∙_}
 use Prim.Native.Nat.{ℕ, zero, suc, _≤_, _<_, _-_, _/_, _%_, _^_}
 use native.Mathlib.Omega.{arith}
 use Rattle.block.specs.Bits.{bitsOf}
-use Rattle.block.specs.Division.{remainderFrom}
+use Rattle.block.specs.Division.{stepBit, remainderFrom}
 use Rattle.block.proofs.Linear.{step-lt}
 use Rattle.block.proofs.Strings.{rem-first}
 use Rattle.block.proofs.circuit.let_in.Statement.{statement}
@@ -33,7 +34,15 @@ cast-turn-2 : tie.Need-cast-turn-2 Inv-loop μ-loop
 cast-turn-2 c = omega arith
 
 turn-requires : tie.Need-turn-requires Inv-loop μ-loop
-turn-requires c κs = (c .before .loop .inv .1, omega arith)
+turn-requires c κs = search needs
+
+stepped : (r b : ℕ) (t : ℕ) → t ≡ stepBit r b → r < 8192 → b < 2 → t < 8192
+stepped r b t e hr hb = rw e (step-lt r b hr hb)
+
+cast-register : tie.Need-cast-register Inv-loop μ-loop
+cast-register c =
+    let at = c .before .before in
+    omega (arith, stepped (at .loop .register) (at .before .args .number / 2 ^ (at .loop .left - 1) % 2) _ (c .turn .ensures) (at .loop .inv .1) (omega arith))
 
 loop-less : tie.Need-loop-less Inv-loop μ-loop
 loop-less c = omega arith
@@ -44,7 +53,7 @@ loop-again c =
     let number = at .before .args .number in
     let bit = number / 2 ^ (at .loop .left - 1) % 2 in (
       omega arith,
-      rw (c .turn .ensures) (step-lt (at .loop .register) bit (at .loop .inv .1) (omega arith)),
+      stepped (at .loop .register) bit _ (c .turn .ensures) (at .loop .inv .1) (omega arith),
       rw (c .turn .ensures) (sym (rem-first (at .loop .left) number (at .loop .register) (omega arith)) ∙ at .loop .inv .2),
     )
 
@@ -70,6 +79,7 @@ let-in-spec =
     shr-turn
     cast-turn-2
     turn-requires
+    cast-register
     loop-less
     loop-again
     returns)

@@ -17,7 +17,7 @@ returns : tie.Need-returns
 returns c = let a = c .before .args in sym (step-small (a .register) (a .bit) (omega arith))
 
 returns-2 : tie.Need-returns-2
-returns-2 c = let a = c .before .args in sym (step-fed (a .register) (a .bit) (omega arith) (omega arith))
+returns-2 c = let a = c .before .args in sym (step-fed (a .register) (a .bit) (omega arith))
 
 pub turn-spec : {M : Type 1} → statement M
 turn-spec = tie.close (tie.spec mul-moved add-moved returns returns-2)
