@@ -30,6 +30,19 @@ pub struct State {
     pub age: u8,
 }
 
+// The state with its waiting bits as one number: the first in place 49, the next in 48, and what is not in use is 0.
+#[repr(C)]
+pub struct PackedState {
+    pub mode: u8,
+    pub good: u8,
+    pub bad: u8,
+    pub waiting: u8,
+    pub bits: u64,
+    pub time: u8,
+    pub held: Record,
+    pub age: u8,
+}
+
 // What a run counts.
 #[repr(C)]
 pub struct Counts {
@@ -44,6 +57,12 @@ pub struct Counts {
 pub struct Ran {
     pub counts: Counts,
     pub state: State,
+}
+
+// A run's counts and the packed state after it.
+pub struct PackedRan {
+    pub counts: Counts,
+    pub state: PackedState,
 }
 
 // A run, and how many bits it fed.
