@@ -12,4 +12,6 @@ pub mod Earned
 pub mod Confirms
 pub mod Running
 pub mod Changes
+pub mod Numbers
+pub mod Layouts
 pub mod Determined
