@@ -2,7 +2,7 @@
 -- Assumes nothing.
 use Prim.Native.Nat.{ℕ, _+_, _≤_, _<_}
 use mathlib.Core.Path.{_≡_, refl}
-use mathlib.Core.Bool.{true}
+use mathlib.Core.Bool.{true, false}
 use borrow.Author.Tests.{eqb-true, eqb-false, leb-true, leb-false}
 use lib.Dec.{eqb, leb}
 use Rattle.block.specs.declared.Read.{Read}
@@ -53,3 +53,18 @@ modes-elim P l w fresh first more third held =
 pub held-judged : (l : Lock) (w : Read) → l .mode ≡ locked → judgedBy l w ≡ heldOn (l .bad) (l .time) w
 unfolding judgedBy
 held-judged l w m = rw m
+
+-- hunting, a window that is no good block passes one bit over
+pub passes-over : (l : Lock) (w : Read) → l .mode ≡ hunting → isGood w ≡ false → judgedBy l w ≡ passedOver freshLock
+unfolding judgedBy hunted
+passes-over l w m e = rw (m, e)
+
+-- any other window is used up
+pub uses-up : (l : Lock) (w : Read) → (l .mode ≡ hunting → isGood w ≡ true) → judgedBy l w .passed ≡ 0
+unfolding judgedBy hunted tried heldOn
+uses-up l w good =
+    let P : Judged → Type 0 = λ j. j .passed ≡ 0 in
+    cond-elim P (eqb (l .mode) hunting) (λ m. rw (good (eqb-true (l .mode) hunting m)))
+    (λ _.
+    cond-elim P (eqb (l .mode) trying) (λ _. cond-elim P (isGood w) (λ _. refl) (λ _. refl))
+    (λ _. cond-elim P (isGood w) (λ _. refl) (λ _. refl)))
