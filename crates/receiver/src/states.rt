@@ -1,6 +1,9 @@
 // The state taken apart and put together, and the test for a proper one.
 ghost use mathlib.Core.Path.{_≡_};
+ghost use Prim.Native.Nat.{_-_, _^_, _≤_};
+ghost use Rattle.receiver.specs.Packed.{packedOf, unpacked, packedProper};
 ghost use Rattle.receiver.specs.States.{stateOf, lockIn, bitsProper, properOf};
+use crate::PackedState;
 use crate::State;
 use locking::Lock;
 use timekeeping::Time;
@@ -67,6 +70,67 @@ pub fn is_proper(state: State) -> bool
     }
     if bits_are_proper(waiting, bits) {
         locking::is_proper(lock_in(state))
+    } else {
+        false
+    }
+}
+
+pub fn lock_in_packed(state: PackedState) -> Lock
+    ensures { λ l. ⌜ l ≡ lockIn (unpacked state) ⌝ }
+{
+    let held = state.held;
+    let time = Time {
+        kind: state.time,
+        held,
+        age: state.age,
+    };
+    Lock {
+        mode: state.mode,
+        good: state.good,
+        bad: state.bad,
+        time,
+    }
+}
+
+pub fn packed_of(lock: Lock, waiting: u8, bits: u64) -> PackedState
+    ensures { λ p. ⌜ p ≡ packedOf lock waiting bits ⌝ }
+{
+    let time = lock.time;
+    let held = time.held;
+    PackedState {
+        mode: lock.mode,
+        good: lock.good,
+        bad: lock.bad,
+        waiting,
+        bits,
+        time: time.kind,
+        held,
+        age: time.age,
+    }
+}
+
+// What the last of so many waiting bits weighs in the number; where none waits, 2^50.
+pub fn weight(waiting: u8) -> u64
+    requires { ⌜ waiting ≤ 50 ⌝ }
+    ensures { λ n. ⌜ n ≡ 2 ^ (50 - waiting) ⌝ }
+{
+    1u64 << (50 - waiting)
+}
+
+// A number of 2^50 or more has a bit above place 49.
+pub fn packed_is_proper(state: PackedState) -> bool
+    ensures { λ t. ⌜ t ≡ packedProper state ⌝ }
+{
+    let waiting = state.waiting;
+    let bits = state.bits;
+    if 1125899906842623 < bits {
+        return false;
+    }
+    if 49 < waiting {
+        return false;
+    }
+    if bits % weight(waiting) == 0 {
+        locking::is_proper(lock_in_packed(state))
     } else {
         false
     }
