@@ -191,10 +191,11 @@ pub bitsOf-above : (k a b : ℕ) → b < 2 ^ k → bitsOf k (a * 2 ^ k + b) ≡ 
 unfolding bitsOf
 bitsOf-above k a b h = ap (λ (j : ℕ). bitsOf j (a * 2 ^ k + b)) (sym (zero-add k)) ∙ bitsOf-join 0 k a b h
 
+pub bitsOf-mod : (k n : ℕ) → bitsOf k (n % 2 ^ k) ≡ bitsOf k n
+bitsOf-mod k n = sym (ap (bitsOf k) (sym (div-add-mod' n (2 ^ k))) ∙ bitsOf-above k (n / 2 ^ k) (n % 2 ^ k) (mod-lt n (pow-pos k)))
+
 pub val-mod : (k n : ℕ) → value (bitsOf k n) ≡ n % 2 ^ k
-val-mod k n =
-    let h : n % 2 ^ k < 2 ^ k = mod-lt n (pow-pos k) in
-    ap value (ap (bitsOf k) (sym (div-add-mod' n (2 ^ k))) ∙ bitsOf-above k (n / 2 ^ k) (n % 2 ^ k) h) ∙ val-bitsOf k (n % 2 ^ k) h
+val-mod k n = ap value (sym (bitsOf-mod k n)) ∙ val-bitsOf k (n % 2 ^ k) (mod-lt n (pow-pos k))
 
 pub thirteen-zeros : bitsOf 13 0 ≡ zeros 13
 unfolding bitsOf

@@ -15,15 +15,17 @@ use Rattle.block.proofs.Strings.{bits-take}
 use Rattle.refusal.specs.declared.Refusal.the-variants.{RunTooLong, Improper}
 use Rattle.timekeeping.proofs.Choices.{cond-elim}
 use Rattle.locking.specs.Locks.{locked}
+use Rattle.receiver.specs.declared.PackedState.{PackedState}
 use Rattle.receiver.specs.declared.State.{State}
 use Rattle.receiver.specs.declared.Stretch.{Stretch}
-use Rattle.receiver.specs.States.{properOf}
 use Rattle.receiver.specs.Steps.{Step, stepOf}
 use Rattle.receiver.specs.Runs.{runFrom, runOf}
 use Rattle.receiver.specs.History.{bitsBefore}
+use Rattle.receiver.specs.Packed.{unpacked, packedProper, packedRan, runPacked}
 use Rattle.receiver.specs.Changes.{sameLock, toChange, upTo, withFed, stretchFrom, refusedStretch, stretchOf, runToChange}
 use Rattle.receiver.proofs.Together.{from-bits, run-is}
 use Rattle.receiver.proofs.Running.{same-lock}
+use Rattle.receiver.proofs.Layouts.{proper-unpacked}
 
 -- ---- the bits up to the change
 
@@ -51,32 +53,34 @@ change-bits s bs h = rw (change-first s bs) at (bits-take (length (toChange s bs
 -- ---- the three answers
 
 -- a run within the limit, from a proper state
-pub stretch-is : (stop : Bool) (s : State) (bs : List ℕ) → length bs ≤ 65536 → properOf s ≡ true
-    → stretchOf stop s bs ≡ stretchFrom (upTo stop s bs) 0 0 0 0 s
+pub stretch-is : (stop : Bool) (p : PackedState) (bs : List ℕ) → length bs ≤ 65536 → packedProper p ≡ true
+    → stretchOf stop p bs ≡ stretchFrom (upTo stop (unpacked p) bs) 0 0 0 0 (unpacked p)
 unfolding stretchOf
-stretch-is stop s bs h p = rw (zero-add, le-ltb 65536 (length bs) h, p, run-is s (upTo stop s bs) (omega (arith, up-to-length stop s bs)) p)
+stretch-is stop p bs h e =
+    let s : State = unpacked p in
+    rw (zero-add, le-ltb 65536 (length bs) h, e, run-is s (upTo stop s bs) (omega (arith, up-to-length stop s bs)) (proper-unpacked p e .proper))
 
 -- refused with 9 or with 10, or it is such a run
-stretch-elim : (P : Stretch → Type 0) (stop : Bool) (s : State) (bs : List ℕ) → P (refusedStretch RunTooLong s) → P (refusedStretch Improper s)
-    → (length bs ≤ 65536 → properOf s ≡ true → P (stretchOf stop s bs)) → P (stretchOf stop s bs)
+stretch-elim : (P : Stretch → Type 0) (stop : Bool) (p : PackedState) (bs : List ℕ) → P (refusedStretch RunTooLong p) → P (refusedStretch Improper p)
+    → (length bs ≤ 65536 → packedProper p ≡ true → P (stretchOf stop p bs)) → P (stretchOf stop p bs)
 unfolding stretchOf
-stretch-elim P stop s bs long improper taken =
-    by (ltb 65536 (length bs)) (properOf s) refl refl
+stretch-elim P stop p bs long improper taken =
+    by (ltb 65536 (length bs)) (packedProper p) refl refl
   where
-    by : (a b : Bool) → ltb 65536 (length bs) ≡ a → properOf s ≡ b → P (stretchOf stop s bs)
-    by true b e p = rw e long
-    by false false e p = rw (e, p) improper
-    by false true e p = taken (ltb-false 65536 (length bs) e) p
+    by : (a b : Bool) → ltb 65536 (length bs) ≡ a → packedProper p ≡ b → P (stretchOf stop p bs)
+    by true b e f = rw e long
+    by false false e f = rw (e, f) improper
+    by false true e f = taken (ltb-false 65536 (length bs) e) f
 
 -- a run that does not stop at the change is the run
-pub all-run : (s : State) (bs : List ℕ) → stretchOf false s bs .ran ≡ runOf s bs
-unfolding stretchOf runOf
-all-run s bs = by (ltb 65536 (length bs)) (properOf s) refl refl
+pub all-run : (p : PackedState) (bs : List ℕ) → stretchOf false p bs .ran ≡ runPacked p bs
+unfolding stretchOf runPacked
+all-run p bs = by (ltb 65536 (length bs)) (packedProper p) refl refl
   where
-    by : (long proper : Bool) → ltb 65536 (length bs) ≡ long → properOf s ≡ proper → stretchOf false s bs .ran ≡ runOf s bs
-    by true proper e p = rw e
-    by false true e p = rw (e, p)
-    by false false e p = rw (e, p)
+    by : (long proper : Bool) → ltb 65536 (length bs) ≡ long → packedProper p ≡ proper → stretchOf false p bs .ran ≡ runPacked p bs
+    by true proper e f = rw e
+    by false true e f = rw (e, f)
+    by false false e f = rw (e, f)
 
 -- ---- lock
 
@@ -115,13 +119,13 @@ from-unchanged (b ∷ bs) (suc n) good bad passed s h =
     rw (on .0) (same-on (s .mode) (t .next .mode) _ (on .1) ∙ from-unchanged bs n _ _ _ (t .next) (on .2))
 
 -- after any shorter part of the bits fed, the state is locked exactly if it was at the start
-pub unchanged : (s : State) (bs : List ℕ) (n : ℕ) → n < runToChange s bs .fed → sameLock (s .mode) (runOf s (take n bs) .state .mode) ≡ true
-unchanged s bs n =
-    stretch-elim (λ (r : Stretch). n < r .fed → sameLock (s .mode) (runOf s (take n bs) .state .mode) ≡ true) true s bs
+pub unchanged : (p : PackedState) (bs : List ℕ) (n : ℕ) → n < runToChange p bs .fed → sameLock (p .mode) (runOf (unpacked p) (take n bs) .state .mode) ≡ true
+unchanged p bs n =
+    stretch-elim (λ (r : Stretch). n < r .fed → sameLock (p .mode) (runOf (unpacked p) (take n bs) .state .mode) ≡ true) true p bs
     (λ h. absurd (omega arith)) (λ h. absurd (omega arith))
-    (λ limit p h.
-    rw (run-is s (take n bs) (omega (arith, length-take n bs)) p)
-    (from-unchanged bs n 0 0 0 s (rw (stretch-is true s bs limit p, zero-add) at h)))
+    (λ limit e h.
+    rw (run-is (unpacked p) (take n bs) (omega (arith, length-take n bs)) (proper-unpacked p e .proper))
+    (from-unchanged bs n 0 0 0 (unpacked p) (rw (stretch-is true p bs limit e, zero-add) at h)))
 
 -- the first bit of a run that is not refused is one
 first-bit : (b : ℕ) (bs : List ℕ) (good bad passed : ℕ) (s : State) → runFrom (b ∷ bs) good bad passed s .counts .refusal ≡ 0 → ltb b 2 ≡ true
@@ -152,12 +156,12 @@ from-changed (b ∷ bs) good bad passed s e h =
     by bit false l on = rw (l, bit, l)
 
 -- where fewer bits were fed than given, and none was refused, lock changed with the last one fed
-pub changed : (s : State) (bs : List ℕ) → runToChange s bs .ran .counts .refusal ≡ 0 → runToChange s bs .fed < length bs
-    → sameLock (s .mode) (runToChange s bs .ran .state .mode) ≡ false
-changed s bs =
-    stretch-elim (λ (r : Stretch). r .ran .counts .refusal ≡ 0 → r .fed < length bs → sameLock (s .mode) (r .ran .state .mode) ≡ false) true s bs
+pub changed : (p : PackedState) (bs : List ℕ) → runToChange p bs .ran .counts .refusal ≡ 0 → runToChange p bs .fed < length bs
+    → sameLock (p .mode) (runToChange p bs .ran .state .mode) ≡ false
+changed p bs =
+    stretch-elim (λ (r : Stretch). r .ran .counts .refusal ≡ 0 → r .fed < length bs → sameLock (p .mode) (r .ran .state .mode) ≡ false) true p bs
     (λ e. absurd (omega arith)) (λ e. absurd (omega arith))
-    (λ limit p. rw (stretch-is true s bs limit p, zero-add) (from-changed bs 0 0 0 s))
+    (λ limit e. rw (stretch-is true p bs limit e, zero-add) (from-changed bs 0 0 0 (unpacked p)))
 
 -- ---- what is fed
 
@@ -169,24 +173,26 @@ all-before (b ∷ bs) good bad passed s e =
     rw bit (ap (λ (l : List ℕ). b ∷ l) (all-before bs _ _ _ (stepOf s b .next) (rw bit at e)))
 
 -- where no bit was refused, it is the run of the first bits, as many as were fed
-pub first-run : (s : State) (bs : List ℕ) → runToChange s bs .ran .counts .refusal ≡ 0
-    → runToChange s bs .ran ≡ runOf s (take (runToChange s bs .fed) bs)
-first-run s bs =
-    stretch-elim (λ (r : Stretch). r .ran .counts .refusal ≡ 0 → r .ran ≡ runOf s (take (r .fed) bs)) true s bs
+pub first-run : (p : PackedState) (bs : List ℕ) → runToChange p bs .ran .counts .refusal ≡ 0
+    → runToChange p bs .ran ≡ packedRan (runOf (unpacked p) (take (runToChange p bs .fed) bs))
+first-run p bs =
+    let s : State = unpacked p in
+    stretch-elim (λ (r : Stretch). r .ran .counts .refusal ≡ 0 → r .ran ≡ packedRan (runOf s (take (r .fed) bs))) true p bs
     (λ e. absurd (omega arith)) (λ e. absurd (omega arith))
-    (λ limit p.
-    rw (stretch-is true s bs limit p, zero-add)
+    (λ limit f.
+    rw (stretch-is true p bs limit f, zero-add)
     (λ e.
     rw (all-before (toChange s bs) 0 0 0 s e, change-first s bs)
-    (sym (run-is s (toChange s bs) (omega (arith, change-length s bs)) p))))
+    (sym (ap packedRan (run-is s (toChange s bs) (omega (arith, change-length s bs)) (proper-unpacked p f .proper))))))
 
 -- bits within the limit, given to a proper state, are not refused: those up to the change are fed, and at least one is
-pub bits-taken : (s : State) (bs : List ℕ) → properOf s ≡ true → Bits bs → length bs ≤ 65536
-    → runToChange s bs ≡ withFed (runFrom (toChange s bs) 0 0 0 s) (length (toChange s bs))
-bits-taken s bs p h limit =
+pub bits-taken : (p : PackedState) (bs : List ℕ) → packedProper p ≡ true → Bits bs → length bs ≤ 65536
+    → runToChange p bs ≡ withFed (packedRan (runFrom (toChange (unpacked p) bs) 0 0 0 (unpacked p))) (length (toChange (unpacked p) bs))
+bits-taken p bs e h limit =
+    let s : State = unpacked p in
     let taken = from-bits (toChange s bs) 0 0 0 s (change-bits s bs h) in
-    rw (stretch-is true s bs limit p, zero-add, all-before (toChange s bs) 0 0 0 s (taken .0))
+    rw (stretch-is true p bs limit e, zero-add, all-before (toChange s bs) 0 0 0 s (taken .0))
 
-pub one-fed : (s : State) (b : ℕ) (bs : List ℕ) → properOf s ≡ true → b < 2 → length (b ∷ bs) ≤ 65536 → 1 ≤ runToChange s (b ∷ bs) .fed
+pub one-fed : (p : PackedState) (b : ℕ) (bs : List ℕ) → packedProper p ≡ true → b < 2 → length (b ∷ bs) ≤ 65536 → 1 ≤ runToChange p (b ∷ bs) .fed
 unfolding toChange bitsBefore
-one-fed s b bs p h limit = rw (stretch-is true s (b ∷ bs) limit p, lt-ltb b 2 h) (omega arith)
+one-fed p b bs e h limit = rw (stretch-is true p (b ∷ bs) limit e, lt-ltb b 2 h) (omega arith)

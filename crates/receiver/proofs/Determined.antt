@@ -3,9 +3,12 @@
 use mathlib.Core.Path.{sym, _∙_}
 use Rattle.refusal.proofs.Determined.{Determined}
 use Rattle.receiver.proofs.fresh.Reads as fresh
+use Rattle.receiver.proofs.fresh_packed.Reads as fresh-packed
 use Rattle.receiver.proofs.run.Reads as run
+use Rattle.receiver.proofs.run_packed.Reads as run-packed
 use Rattle.receiver.proofs.run_to_change.Reads as run-to-change
 use Rattle.receiver.proofs.step.Reads as step
+use Rattle.receiver.proofs.step_packed.Reads as step-packed
 
 pub fresh-determined : Determined fresh.Post
 fresh-determined κs a x y s t p q = p ∙ sym q
@@ -18,3 +21,12 @@ run-to-change-determined κs a x y s t p q = p ∙ sym q
 
 pub step-determined : Determined step.Post
 step-determined κs a x y s t p q = p ∙ sym q
+
+pub fresh-packed-determined : Determined fresh-packed.Post
+fresh-packed-determined κs a x y s t p q = p ∙ sym q
+
+pub run-packed-determined : Determined run-packed.Post
+run-packed-determined κs a x y s t p q = p ∙ sym q
+
+pub step-packed-determined : Determined step-packed.Post
+step-packed-determined κs a x y s t p q = p ∙ sym q

@@ -1,39 +1,65 @@
 -- The two layouts of a state say the same: packing and unpacking undo each other, and so every call answers the same in both.
 -- Assumes nothing.
-use mathlib.Core.Path.{_≡_, refl, _∙_, subst}
-use mathlib.Core.Bool.{true, and-eq-true-iff}
-use mathlib.Core.List.{List}
+use mathlib.Core.Path.{_≡_, refl, sym, _∙_}
+use mathlib.Core.Bool.{Bool, true, false, and-eq-true-iff}
+use mathlib.Core.List.{List, [], _∷_}
 use Prim.Native.Nat.{ℕ, _^_, _<_}
-use borrow.Author.Tests.{lt-ltb}
+use borrow.Author.Tests.{lt-ltb, ltb-true}
 use lib.Dec.{ltb}
 use lib.ListN.{length}
 use Rattle.block.specs.Bits.{Bits, value}
-use Rattle.block.proofs.Strings.{val-lt, val-bitsOf, bitsOf-val}
+use Rattle.block.specs.Packed.{packOf}
+use Rattle.block.specs.declared.Packed.the-variants.{Refused}
+use Rattle.refusal.specs.declared.Refusal.{Refusal}
+use Rattle.block.proofs.Packing.{Packs, fifty-lt, not-refused, packs-bits}
+use Rattle.block.proofs.Strings.{val-bitsOf, bitsOf-val, length-bitsOf}
 use Rattle.timekeeping.proofs.Choices.{cond-elim}
 use Rattle.receiver.specs.declared.PackedRan.{PackedRan}
 use Rattle.receiver.specs.declared.PackedState.{PackedState}
+use Rattle.receiver.specs.declared.Ran.{Ran}
 use Rattle.receiver.specs.declared.State.{State}
-use Rattle.receiver.specs.States.{properOf}
+use Rattle.receiver.specs.States.{lockIn, properOf}
+use Rattle.receiver.specs.declared.Counts.{Counts}
 use Rattle.receiver.specs.Runs.{runOf, fedOf}
-use Rattle.receiver.specs.Packed.{packed, unpacked, packedProper, packedRan, runPacked, fedPacked}
-use Rattle.receiver.proofs.StaysProper.{Proper, bits-and-lock}
+use Rattle.receiver.specs.Packed.{packedOf, packed, unpacked, packedProper, packedRan, runPacked, fedPacked}
+use Rattle.receiver.proofs.StaysProper.{Proper, bits-and-lock, from-proper}
 use Rattle.receiver.proofs.Numbers.{proper-bits}
+use Rattle.receiver.proofs.Together.{fed-run}
+
+abbrev pub ranOf : Counts → State → Ran
+ranOf counts s = record { counts = counts; state = s }
 
 -- ---- from the fifty places and back
 
-module _ (s : State) (p : Proper s) where
-  bits : Bits (s .bits)
-  bits = proper-bits (s .waiting) (s .bits) (bits-and-lock s (p .proper) .0)
+-- fifty bits stand in the places, in use or not
+pub record FiftyBits (s : State) : Type 0 where
+  pub places : length (s .bits) ≡ 50
+  pub bits : Bits (s .bits)
 
+pub proper-fifty : (s : State) → Proper s → FiftyBits s
+proper-fifty s p = record { places = p .places; bits = proper-bits (s .waiting) (s .bits) (bits-and-lock s (p .proper) .0) }
+
+module _ (s : State) (f : FiftyBits s) where
   pub there-and-back : unpacked (packed s) ≡ s
-  there-and-back = rw (bitsOf-val 50 (s .bits) bits (p .places))
+  there-and-back = rw (bitsOf-val 50 (s .bits) (f .bits) (f .places))
 
   pub packed-small : packed s .bits < 2 ^ 50
-  packed-small = subst (λ (n : ℕ). value (s .bits) < 2 ^ n) (p .places) (val-lt (s .bits) bits)
+  packed-small = fifty-lt (s .bits) (f .places) (f .bits)
 
-  pub packed-proper : packedProper (packed s) ≡ true
-  unfolding packedProper
-  packed-proper = and-eq-true-iff _ _ .1 (lt-ltb (value (s .bits)) (2 ^ 50) packed-small, rw there-and-back (p .proper))
+pub packed-proper : (s : State) → Proper s → packedProper (packed s) ≡ true
+unfolding packedProper
+packed-proper s p =
+    let f = proper-fifty s p in
+    and-eq-true-iff _ _ .1 (lt-ltb (value (s .bits)) (2 ^ 50) (packed-small s f), rw (there-and-back s f) (p .proper))
+
+-- fifty bits stay fifty bits in a run, refused or not
+pub run-fifty : (s : State) (bs : List ℕ) → FiftyBits s → FiftyBits (runOf s bs .state)
+unfolding runOf
+run-fifty s bs f =
+    let P : Ran → Type 0 = λ r. FiftyBits (r .state) in
+    cond-elim P (ltb 65536 (length bs)) (λ _. f)
+    (λ _.
+    cond-elim P (properOf s) (λ e. proper-fifty _ (from-proper bs 0 0 0 s (record { places = f .places; proper = e }))) (λ _. f))
 
 -- ---- from the number and back
 
@@ -41,7 +67,7 @@ module _ (p : PackedState) (h : p .bits < 2 ^ 50) where
   pub back-and-there : packed (unpacked p) ≡ p
   back-and-there = rw (val-bitsOf 50 (p .bits) h)
 
-  same-test : packedProper p ≡ properOf (unpacked p)
+  pub same-test : packedProper p ≡ properOf (unpacked p)
   unfolding packedProper
   same-test = rw (lt-ltb (p .bits) (2 ^ 50) h)
 
@@ -58,9 +84,48 @@ module _ (p : PackedState) (h : p .bits < 2 ^ 50) where
   unfolding fedPacked fedOf
   fed-unpacked b = cond-elim (λ (r : PackedRan). r ≡ packedRan (fedOf (unpacked p) b)) (packedProper p) (λ _. refl) (λ f. rw (← same-test, f, back-and-there))
 
--- the answers to a proper state, packed, are its own answers, packed
-pub run-packed : (s : State) (bs : List ℕ) → Proper s → runPacked (packed s) bs ≡ packedRan (runOf s bs)
-run-packed s bs p = run-unpacked (packed s) (packed-small s p) bs ∙ rw (there-and-back s p)
+-- the answers to fifty bits, packed, are their own answers, packed
+pub run-packed : (s : State) (bs : List ℕ) → FiftyBits s → runPacked (packed s) bs ≡ packedRan (runOf s bs)
+run-packed s bs f = run-unpacked (packed s) (packed-small s f) bs ∙ rw (there-and-back s f)
 
-pub fed-packed : (s : State) (b : ℕ) → Proper s → fedPacked (packed s) b ≡ packedRan (fedOf s b)
-fed-packed s b p = fed-unpacked (packed s) (packed-small s p) b ∙ rw (there-and-back s p)
+pub fed-packed : (s : State) (b : ℕ) → FiftyBits s → fedPacked (packed s) b ≡ packedRan (fedOf s b)
+fed-packed s b f = fed-unpacked (packed s) (packed-small s f) b ∙ rw (there-and-back s f)
+
+-- a state whose places pack, run in the other layout and unpacked again
+module _ (s : State) (n : ℕ) (k : Packs (s .bits) n) (p : PackedState) (e : p ≡ packedOf (lockIn s) (s .waiting) n) (bs : List ℕ) (r : PackedRan) (d : r ≡ runPacked p bs) where
+  fifty : FiftyBits s
+  fifty = record { places = k .size; bits = k .bits }
+
+  ran : r ≡ packedRan (runOf s bs)
+  ran = rw (d, e, ← k .number) (run-packed s bs fifty)
+
+  pub ran-small : r .state .bits < 2 ^ 50
+  ran-small = rw ran (packed-small _ (run-fifty s bs fifty))
+
+  pub ran-back : (t : State) → t ≡ unpacked (r .state) → ranOf (r .counts) t ≡ runOf s bs
+  ran-back t f = rw (f, ran, there-and-back _ (run-fifty s bs fifty))
+
+-- places that do not pack are not proper
+pub not-proper : (s : State) → length (s .bits) ≡ 50 → (why : Refusal) → packOf (s .bits) ≡ Refused why → properOf s ≡ false
+not-proper s l why e = by (properOf s) refl
+  where
+    by : (t : Bool) → properOf s ≡ t → t ≡ false
+    by true p = let f = proper-fifty s (record { places = l; proper = p }) in absurd (not-refused (sym (packs-bits (s .bits) l (f .bits)) ∙ e))
+    by false p = refl
+
+-- one fed bit answers as a run of that bit alone
+pub fed-packed-run : (p : PackedState) (b : ℕ) → fedPacked p b ≡ runPacked p (b ∷ [])
+unfolding fedPacked runPacked
+fed-packed-run p b = rw (fed-run (unpacked p) b)
+
+-- a packed state that is proper has no bit above place 49, and its fifty places are proper
+module _ (p : PackedState) (e : packedProper p ≡ true) where
+  tests : (ltb (p .bits) (2 ^ 50) ≡ true) × (properOf (unpacked p) ≡ true)
+  unfolding packedProper
+  tests = and-eq-true-iff (ltb (p .bits) (2 ^ 50)) _ .0 e
+
+  pub proper-small : p .bits < 2 ^ 50
+  proper-small = ltb-true (p .bits) (2 ^ 50) (tests .0)
+
+  pub proper-unpacked : Proper (unpacked p)
+  proper-unpacked = record { places = length-bitsOf 50 (p .bits); proper = tests .1 }

@@ -10,8 +10,9 @@ pub mod EndOfHistory
 pub mod EarnedLock
 pub mod Earned
 pub mod Confirms
-pub mod Running
-pub mod Changes
 pub mod Numbers
 pub mod Layouts
+pub mod Running
+pub mod Turning
+pub mod Changes
 pub mod Determined

@@ -24,6 +24,7 @@ use Rattle.receiver.specs.States.{stateOf}
 use Rattle.receiver.specs.Steps.{Step, stepOf, judgedStep}
 use Rattle.receiver.specs.Runs.{ended, runFrom}
 use Rattle.receiver.specs.History.{bitsBefore}
+use Rattle.receiver.specs.Packed.{packedRan}
 use Rattle.receiver.specs.Changes.{sameLock, toChange, upTo, withFed, stretchFrom}
 use Rattle.receiver.proofs.Choices.{waits, judges}
 
@@ -75,16 +76,16 @@ stopped true false test d e = (refl, refl)
 stopped false same test d e = (cc, cc)
 
 module _ (stop : Bool) (fed good bad passed : ℕ) (s : State) where
-  pub on-done : goesOn stop [] fed good bad passed s ≡ withFed (ended 0 good bad passed s) fed
+  pub on-done : goesOn stop [] fed good bad passed s ≡ withFed (packedRan (ended 0 good bad passed s)) fed
   unfolding runFrom bitsBefore toChange
   on-done = by stop
     where
-      by : (stop : Bool) → goesOn stop [] fed good bad passed s ≡ withFed (ended 0 good bad passed s) fed
+      by : (stop : Bool) → goesOn stop [] fed good bad passed s ≡ withFed (packedRan (ended 0 good bad passed s)) fed
       by true = simp add-zero
       by false = simp add-zero
 
   module _ (b : ℕ) (bs : List ℕ) where
-    pub on-stops : 2 ≤ b → goesOn stop (b ∷ bs) fed good bad passed s ≡ withFed (ended (numberOf NotABit) good bad passed s) fed
+    pub on-stops : 2 ≤ b → goesOn stop (b ∷ bs) fed good bad passed s ≡ withFed (packedRan (ended (numberOf NotABit) good bad passed s)) fed
     unfolding runFrom bitsBefore
     on-stops h = rw (up-first stop s b bs .1, le-ltb b 2 h, add-zero)
 
@@ -125,7 +126,7 @@ module _ (stop : Bool) (fed good bad passed b : ℕ) (bs : List ℕ) (bit : b < 
 
     pub on-ends : stop ≡ true → sameLock (l .mode) (j .lock .mode) ≡ false
         → goesOn stop (b ∷ bs) fed good bad passed (stateOf l w window)
-        ≡ withFed (ended 0 (good + j .good) (bad + j .bad) (passed + j .passed) (judges (set window w b) j .next)) (fed + 1)
+        ≡ withFed (packedRan (ended 0 (good + j .good) (bad + j .bad) (passed + j .passed) (judges (set window w b) j .next))) (fed + 1)
     unfolding runFrom bitsBefore
     on-ends k change =
         let s : State = stateOf l w window in

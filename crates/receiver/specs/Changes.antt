@@ -9,13 +9,14 @@ use Rattle.refusal.specs.Numbers.{numberOf}
 use Rattle.refusal.specs.declared.Refusal.{Refusal}
 use Rattle.refusal.specs.declared.Refusal.the-variants.{RunTooLong, Improper}
 use Rattle.locking.specs.Locks.{locked}
-use Rattle.receiver.specs.declared.Ran.{Ran}
+use Rattle.receiver.specs.declared.PackedRan.{PackedRan}
+use Rattle.receiver.specs.declared.PackedState.{PackedState}
 use Rattle.receiver.specs.declared.State.{State}
 use Rattle.receiver.specs.declared.Stretch.{Stretch}
-use Rattle.receiver.specs.States.{properOf}
 use Rattle.receiver.specs.Steps.{stepOf}
-use Rattle.receiver.specs.Runs.{refusedRun, runFrom, runOf}
+use Rattle.receiver.specs.Runs.{runFrom, runOf}
 use Rattle.receiver.specs.History.{bitsBefore}
+use Rattle.receiver.specs.Packed.{unpacked, packedProper, packedRan, refusedPacked}
 
 -- of two modes, one before and one after: both are locked, or neither is
 unfoldable pub sameLock : ℕ → ℕ → Bool
@@ -33,23 +34,24 @@ abbrev pub upTo : Bool → State → List ℕ → List ℕ
 upTo stop s bs = cond stop (toChange s bs) bs
 
 -- a run, and how many bits it fed
-abbrev pub withFed : Ran → ℕ → Stretch
+abbrev pub withFed : PackedRan → ℕ → Stretch
 withFed ran fed = record { ran = ran; fed = fed }
 
 -- the bits one after the other, with what was fed and counted before; those before the first that is no bit are fed
 abbrev pub stretchFrom : List ℕ → ℕ → ℕ → ℕ → ℕ → State → Stretch
-stretchFrom bs fed good bad passed s = withFed (runFrom bs good bad passed s) (fed + length (bitsBefore bs))
+stretchFrom bs fed good bad passed s = withFed (packedRan (runFrom bs good bad passed s)) (fed + length (bitsBefore bs))
 
 -- refused before any bit is fed
-abbrev pub refusedStretch : Refusal → State → Stretch
-refusedStretch why s = withFed (refusedRun (numberOf why) s) 0
+abbrev pub refusedStretch : Refusal → PackedState → Stretch
+refusedStretch why p = withFed (refusedPacked (numberOf why) p) 0
 
 -- More than 65,536 bits get 9, then a state that is not proper 10. Else it is the run of the bits up to where it stops; those
 -- before the first that is no bit are fed
-unfoldable pub stretchOf : Bool → State → List ℕ → Stretch
-stretchOf stop s bs =
-    cond (ltb 65536 (length bs)) (refusedStretch RunTooLong s)
-    (cond (properOf s) (withFed (runOf s (upTo stop s bs)) (length (bitsBefore (upTo stop s bs)))) (refusedStretch Improper s))
+unfoldable pub stretchOf : Bool → PackedState → List ℕ → Stretch
+stretchOf stop p bs =
+    let fed : List ℕ = upTo stop (unpacked p) bs in
+    cond (ltb 65536 (length bs)) (refusedStretch RunTooLong p)
+    (cond (packedProper p) (withFed (packedRan (runOf (unpacked p) fed)) (length (bitsBefore fed))) (refusedStretch Improper p))
 
-abbrev pub runToChange : State → List ℕ → Stretch
-runToChange s bs = stretchOf true s bs
+abbrev pub runToChange : PackedState → List ℕ → Stretch
+runToChange p bs = stretchOf true p bs

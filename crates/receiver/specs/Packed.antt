@@ -18,7 +18,7 @@ use Rattle.receiver.specs.declared.State.{State}
 use Rattle.receiver.specs.States.{stateOf, lockIn, freshOf, properOf}
 use Rattle.receiver.specs.Runs.{countsOf, runOf, fedOf}
 
--- a packed state: its lock, how many bits wait, and the number that holds them (02, No. 6)
+-- a packed state: its lock, how many bits wait, and the number that holds them
 abbrev pub packedOf : Lock → ℕ → ℕ → PackedState
 packedOf l waiting bits =
     record {
@@ -32,38 +32,42 @@ packedOf l waiting bits =
       age = l .time .age;
     }
 
--- the fifty places become one number, the first of them place 49 (02, No. 6)
+-- the fifty places become one number, the first of them place 49
 abbrev pub packed : State → PackedState
 packed s = packedOf (lockIn s) (s .waiting) (value (s .bits))
 
--- and the places 49 to 0 of the number become the fifty places (02, No. 6)
+-- and the places 49 to 0 of the number become the fifty places
 abbrev pub unpacked : PackedState → State
 unpacked p = stateOf (lockOf (p .mode) (p .good) (p .bad) (timeOf (p .time) (p .held) (p .age))) (p .waiting) (bitsOf 50 (p .bits))
 
--- hunting, nothing waiting, no time (02, No. 6)
+-- hunting, nothing waiting, no time
 abbrev pub freshPacked : PackedState
 freshPacked = packed freshOf
 
--- no bit stands above place 49, and the state in fifty places is proper: so the places not in use are 0 (02, No. 6)
+-- no bit stands above place 49, and the state in fifty places is proper: so the places not in use are 0
 unfoldable pub packedProper : PackedState → Bool
 packedProper p = ltb (p .bits) (2 ^ 50) && properOf (unpacked p)
 
 -- ---- the calls
 
--- the counts of a run, and its state packed (02, No. 6)
+-- the counts of a run, and its state packed
 abbrev pub packedRan : Ran → PackedRan
 packedRan r = record { counts = r .counts; state = packed (r .state) }
 
--- refused before any bit is fed: all counts are 0, and the state is as it was (02, No. 6)
+-- a run that ends here, with how many bits wait
+abbrev pub endedPacked : ℕ → ℕ → ℕ → ℕ → PackedState → PackedRan
+endedPacked refusal good bad passed p = record { counts = countsOf refusal good bad passed (p .waiting); state = p }
+
+-- refused before any bit is fed: all counts are 0, and the state is as it was
 abbrev pub refusedPacked : ℕ → PackedState → PackedRan
 refusedPacked refusal p = record { counts = countsOf refusal 0 0 0 0; state = p }
 
--- a run longer than 65,536 gets 9, then a state that is not proper 10; else it is the run of the fifty places (02, No. 6)
+-- a run longer than 65,536 gets 9, then a state that is not proper 10; else it is the run of the fifty places
 unfoldable pub runPacked : PackedState → List ℕ → PackedRan
 runPacked p bs =
     cond (ltb 65536 (length bs)) (refusedPacked (numberOf RunTooLong) p)
     (cond (packedProper p) (packedRan (runOf (unpacked p) bs)) (refusedPacked (numberOf Improper) p))
 
--- one fed bit: a state that is not proper gets 10; else it is the bit fed to the fifty places (02, No. 6)
+-- one fed bit: a state that is not proper gets 10; else it is the bit fed to the fifty places
 unfoldable pub fedPacked : PackedState → ℕ → PackedRan
 fedPacked p b = cond (packedProper p) (packedRan (fedOf (unpacked p) b)) (refusedPacked (numberOf Improper) p)

@@ -2,20 +2,29 @@
 mod states;
 mod windows;
 
-ghost use mathlib.Core.Bool.{_&&_, not};
+ghost use mathlib.Core.Bool.{true, _&&_, not};
 ghost use mathlib.Core.Path.{_≡_};
-ghost use Prim.Native.Nat.{_<_, _≤_};
+ghost use Prim.Native.Nat.{_≤_};
 ghost use lib.ListN.{length};
-ghost use Rattle.receiver.specs.Changes.{sameLock, upTo, withFed, refusedStretch, stretchFrom, stretchOf, runToChange};
-ghost use Rattle.receiver.specs.Runs.{ended, runOf, fedOf};
+ghost use Rattle.refusal.specs.Numbers.{numberOf};
+ghost use Rattle.receiver.specs.Changes.{sameLock, upTo, withFed, stretchFrom, stretchOf, runToChange};
+ghost use Rattle.receiver.specs.Packed.{freshPacked, unpacked, packedProper, endedPacked, runPacked, fedPacked};
+ghost use Rattle.receiver.specs.Runs.{countsOf, runOf, fedOf};
 ghost use Rattle.receiver.specs.States.{freshOf};
+use block::Packed;
+use block::circuit::remainder;
+use block::circuit::turn;
 use record::Record;
 use refusal::Refusal;
 use states::is_proper;
+use states::kept;
 use states::lock_in;
-use states::state_of;
-use windows::judge_window;
-use windows::settle;
+use states::packed_of;
+use states::packed_with;
+use states::unpack;
+use windows::behind_first;
+use windows::is_passed_over;
+use windows::weight;
 
 // The state, as it is lent: plain numbers, and what is not in use is 0.
 #[repr(C)]
@@ -30,7 +39,7 @@ pub struct State {
     pub age: u8,
 }
 
-// The state with its waiting bits as one number: the first in place 49, the next in 48, and what is not in use is 0.
+// The same with its waiting bits as one number: the first in place 49, the next in 48, and what is not in use is 0.
 #[repr(C)]
 pub struct PackedState {
     pub mode: u8,
@@ -59,7 +68,6 @@ pub struct Ran {
     pub state: State,
 }
 
-// A run's counts and the packed state after it.
 pub struct PackedRan {
     pub counts: Counts,
     pub state: PackedState,
@@ -67,19 +75,19 @@ pub struct PackedRan {
 
 // A run, and how many bits it fed.
 pub struct Stretch {
-    pub ran: Ran,
+    pub ran: PackedRan,
     pub fed: usize,
 }
 
 // Hunting, with nothing waiting and no time.
-pub fn fresh() -> State
-    ensures { λ s. ⌜ s ≡ freshOf ⌝ }
+pub fn fresh_packed() -> PackedState
+    ensures { λ p. ⌜ p ≡ freshPacked ⌝ }
 {
-    state_of(locking::fresh_lock(), 0, [0u8; 50])
+    packed_of(locking::fresh_lock(), 0, 0)
 }
 
-fn counted(refusal: u8, good: u32, bad: u32, passed: u32, fed: usize, state: State) -> Stretch
-    ensures { λ r. ⌜ r ≡ withFed (ended refusal good bad passed state) fed ⌝ }
+fn counted(refusal: u8, good: u32, bad: u32, passed: u32, fed: usize, state: PackedState) -> Stretch
+    ensures { λ r. ⌜ r ≡ withFed (endedPacked refusal good bad passed state) fed ⌝ }
 {
     let counts = Counts {
         refusal,
@@ -88,22 +96,21 @@ fn counted(refusal: u8, good: u32, bad: u32, passed: u32, fed: usize, state: Sta
         passed,
         waiting: state.waiting as u32,
     };
-    let ran = Ran { counts, state };
+    let ran = PackedRan { counts, state };
     Stretch { ran, fed }
 }
 
-fn refused(why: Refusal, state: State) -> Stretch
-    ensures { λ r. ⌜ r ≡ refusedStretch why state ⌝ }
+// Refused before any bit is fed: nothing is counted.
+fn refused(why: Refusal) -> Counts
+    ensures { λ r. ⌜ r ≡ countsOf (numberOf why) 0 0 0 0 ⌝ }
 {
-    let counts = Counts {
+    Counts {
         refusal: refusal::number(why),
         good: 0,
         bad: 0,
         passed: 0,
         waiting: 0,
-    };
-    let ran = Ran { counts, state };
-    Stretch { ran, fed: 0 }
+    }
 }
 
 // Whether a run ends here: it is to stop where lock changes, and it did, by the modes before and after.
@@ -119,14 +126,15 @@ fn ends(stop: bool, before: u8, after: u8) -> bool
     false
 }
 
-// The bits one after the other. The window stays where it is; only its lock and its counts change hands.
-fn feed_all(state: State, bits: &[u8], stop: bool) -> Stretch
-    requires { ⌜ (state .waiting < 50) × (length (now bits) ≤ 65536) ⌝ }
-    ensures { λ r. ⌜ r ≡ stretchFrom (upTo stop state (now (bits .entry))) 0 0 0 0 state ⌝ }
+// The bits one after the other. The circuit turns once for each; a full window is passed over by one bit, or judged and used up.
+fn feed_all(state: PackedState, bits: &[u8], stop: bool) -> Stretch
+    requires { ⌜ (packedProper state ≡ true) × (length (now bits) ≤ 65536) ⌝ }
+    ensures { λ r. ⌜ r ≡ stretchFrom (upTo stop (unpacked state) (now (bits .entry))) 0 0 0 0 (unpacked state) ⌝ }
 {
-    let mut window = state.bits;
-    let mut waiting = state.waiting as usize;
     let mut lock = lock_in(state);
+    let mut waiting = state.waiting as u32;
+    let mut window = state.bits / weight(waiting);
+    let mut register = remainder(window);
     let mut good: u32 = 0;
     let mut bad: u32 = 0;
     let mut passed: u32 = 0;
@@ -134,63 +142,115 @@ fn feed_all(state: State, bits: &[u8], stop: bool) -> Stretch
     while i < bits.len() {
         let bit = bits[i];
         if 1 < bit {
-            let here = state_of(lock, waiting as u8, window);
             let why = refusal::number(Refusal::NotABit);
-            return counted(why, good, bad, passed, i, here);
+            return counted(why, good, bad, passed, i, kept(lock, waiting, window));
         }
-        window[waiting] = bit;
+        window = window * 2 + (bit as u64);
+        register = turn(register, bit) as u32;
         waiting += 1;
         if waiting == 50 {
-            let judged = judge_window(lock, &window);
-            good += judged.good as u32;
-            bad += judged.bad as u32;
-            passed += judged.passed as u32;
-            let before = lock.mode;
-            let next = judged.lock;
-            lock = next;
-            waiting = settle(&mut window, judged.passed);
-            if ends(stop, before, lock.mode) {
-                let here = state_of(lock, waiting as u8, window);
-                return counted(0, good, bad, passed, i + 1, here);
+            let left = behind_first(window, register);
+            if is_passed_over(lock.mode, window, left) {
+                passed += 1;
+                window = window % 0x2_0000_0000_0000;
+                register = left;
+                waiting = 49;
+            } else {
+                let judged = locking::judge(lock, block::read_by(window, left));
+                good += judged.good as u32;
+                bad += judged.bad as u32;
+                let before = lock.mode;
+                let next = judged.lock;
+                lock = next;
+                window = 0;
+                register = 0;
+                waiting = 0;
+                if ends(stop, before, lock.mode) {
+                    return counted(0, good, bad, passed, i + 1, packed_of(lock, 0, 0));
+                }
             }
         }
         i += 1;
     }
-    let here = state_of(lock, waiting as u8, window);
-    counted(0, good, bad, passed, i, here)
+    counted(0, good, bad, passed, i, kept(lock, waiting, window))
 }
 
 // A run of all the bits or, where it is to stop there, of those up to the one with which lock changes.
-fn limited(state: State, bits: &[u8], stop: bool) -> Stretch
+fn limited(state: PackedState, bits: &[u8], stop: bool) -> Stretch
     ensures { λ r. ⌜ r ≡ stretchOf stop state (now (bits .entry)) ⌝ }
 {
     let long = 65536 < bits.len();
     let improper = !is_proper(state);
     if long {
-        return refused(Refusal::RunTooLong, state);
+        let ran = PackedRan {
+            counts: refused(Refusal::RunTooLong),
+            state,
+        };
+        return Stretch { ran, fed: 0 };
     }
     if improper {
-        return refused(Refusal::Improper, state);
+        let ran = PackedRan {
+            counts: refused(Refusal::Improper),
+            state,
+        };
+        return Stretch { ran, fed: 0 };
     }
     feed_all(state, bits, stop)
 }
 
 // A run of bits, by value.
-pub fn run(state: State, bits: &[u8]) -> Ran
-    ensures { λ r. ⌜ r ≡ runOf state (now (bits .entry)) ⌝ }
+pub fn run_packed(state: PackedState, bits: &[u8]) -> PackedRan
+    ensures { λ r. ⌜ r ≡ runPacked state (now (bits .entry)) ⌝ }
 {
     let all = limited(state, bits, false);
     all.ran
 }
 
 // A run that ends with the bit with which lock comes or goes, or with the last bit.
-pub fn run_to_change(state: State, bits: &[u8]) -> Stretch
+pub fn run_to_change(state: PackedState, bits: &[u8]) -> Stretch
     ensures { λ r. ⌜ r ≡ runToChange state (now (bits .entry)) ⌝ }
 {
     limited(state, bits, true)
 }
 
 // One bit, by value: the run of that bit alone.
+pub fn step_packed(state: PackedState, bit: u8) -> PackedRan
+    ensures { λ r. ⌜ r ≡ fedPacked state bit ⌝ }
+{
+    run_packed(state, &[bit])
+}
+
+// ---- with the waiting bits in fifty places: packed, run and unpacked
+
+pub fn fresh() -> State
+    ensures { λ s. ⌜ s ≡ freshOf ⌝ }
+{
+    unpack(fresh_packed())
+}
+
+pub fn run(state: State, bits: &[u8]) -> Ran
+    ensures { λ r. ⌜ r ≡ runOf state (now (bits .entry)) ⌝ }
+{
+    let places = state.bits;
+    match block::pack(&places) {
+        Packed::Number(number) => {
+            let ran = run_packed(packed_with(state, number), bits);
+            let next = ran.state;
+            let counts = ran.counts;
+            let state = unpack(next);
+            Ran { counts, state }
+        }
+        Packed::Refused(_) => {
+            let mut why = Refusal::Improper;
+            if 65536 < bits.len() {
+                why = Refusal::RunTooLong;
+            }
+            let counts = refused(why);
+            Ran { counts, state }
+        }
+    }
+}
+
 pub fn step(state: State, bit: u8) -> Ran
     ensures { λ r. ⌜ r ≡ fedOf state bit ⌝ }
 {

@@ -1,50 +1,47 @@
-// The window of fifty bits: judged, and settled after it.
-ghost use mathlib.Core.Bool.{cond};
-ghost use mathlib.Core.List.{[], _∷_, _++_};
+// The window of fifty bits, as the number of the bits that wait, with what the circuit makes of them.
+ghost use mathlib.Core.Bool.{_&&_, not};
 ghost use mathlib.Core.Path.{_≡_};
+ghost use Prim.Native.Nat.{_<_, _≤_, _-_, _^_};
 ghost use lib.Dec.{eqb};
-ghost use lib.ListN.{drop, length};
-ghost use Rattle.block.specs.Bits.{zeros};
-ghost use Rattle.block.specs.Read.{readOf};
-ghost use Rattle.locking.specs.Modes.{judgedBy};
-use locking::Judged;
-use locking::Lock;
+ghost use Rattle.block.specs.Bits.{bitsOf};
+ghost use Rattle.block.specs.Division.{remainder};
+ghost use Rattle.block.specs.Packed.{readBy};
+ghost use Rattle.locking.specs.Locks.{hunting};
+ghost use Rattle.locking.specs.Modes.{isGood};
 
-// A full window. While hunting, one that starts with 0 is passed over and no more of it is looked at: that is half of all noise.
-pub fn judge_window(lock: Lock, window: &[u8]) -> Judged
-    requires { ⌜ length (now window) ≡ 50 ⌝ }
-    ensures { λ j. ⌜ j ≡ judgedBy lock (readOf (now (window .entry))) ⌝ }
+// What x^49 leaves: what the first bit of a full window, a 1, has put into the register.
+const FIRST: u32 = 0x1283;
+
+// What a full window leaves without its first bit, which is taken off the register again.
+pub fn behind_first(window: u64, register: u32) -> u32
+    requires { ⌜ (window < 2 ^ 50) × (register ≡ remainder (bitsOf 50 window)) ⌝ }
+    ensures { λ r. ⌜ r ≡ remainder (bitsOf 49 window) ⌝ }
 {
-    if lock.mode == 0 {
-        if window[0] != 1 {
-            return locking::passed_over(locking::fresh_lock());
-        }
+    if window < 0x2_0000_0000_0000 {
+        register
+    } else {
+        register ^ FIRST
     }
-    locking::judge(lock, block::read_block(window))
 }
 
-// The oldest bit is passed over.
-fn shift(window: &mut [u8; 50])
-    requires { ⌜ length (now window) ≡ 50 ⌝ }
-    ensures { λ _. ⌜ now (window .exit) ≡ drop 1 (now (window .entry)) ++ (0 ∷ []) ⌝ }
+// Whether a full window passes its oldest bit over: when hunting, unless it is a good block. What is left is looked at first,
+// since noise leaves something nearly always and starts with 1 half the time.
+pub fn is_passed_over(mode: u8, window: u64, left: u32) -> bool
+    ensures { λ t. ⌜ t ≡ eqb mode hunting && not (isGood (readBy window left)) ⌝ }
 {
-    let mut i: usize = 0;
-    while i < 49 {
-        window[i] = window[i + 1];
-        i += 1;
+    if mode != 0 {
+        return false;
     }
-    window[49] = 0;
+    if left != 0 {
+        return true;
+    }
+    window < 0x2_0000_0000_0000
 }
 
-// How many wait then: 49 where the oldest bit was passed over; else all fifty are used up.
-pub fn settle(window: &mut [u8; 50], passed: u8) -> usize
-    requires { ⌜ length (now window) ≡ 50 ⌝ }
-    ensures { λ n. ⌜ (n ≡ cond (eqb passed 1) 49 0) × (now (window .exit) ≡ cond (eqb passed 1) (drop 1 (now (window .entry)) ++ (0 ∷ [])) (zeros 50)) ⌝ }
+// What the last of so many waiting bits weighs in the packed state; where none waits, 2^50.
+pub fn weight(waiting: u32) -> u64
+    requires { ⌜ waiting ≤ 50 ⌝ }
+    ensures { λ n. ⌜ n ≡ 2 ^ (50 - waiting) ⌝ }
 {
-    if passed == 1 {
-        shift(window);
-        return 49;
-    }
-    *window = [0u8; 50];
-    0
+    1u64 << (50 - waiting)
 }

@@ -1,19 +1,22 @@
--- `fresh` meets its contract: a state made of a fresh lock.
+-- `fresh` meets its contract: the fresh packed state, unpacked.
 -- Assumes nothing.
 use borrow.Author.Needs.{needs}
+use mathlib.Core.Path.{ap, _∙_}
 use Rattle.receiver.specs.States.{freshOf}
+use Rattle.receiver.specs.Packed.{unpacked}
+use Rattle.receiver.proofs.StaysProper.{fresh-proper}
+use Rattle.receiver.proofs.Layouts.{proper-fifty, there-and-back, packed-small}
 use Rattle.receiver.proofs.fresh.Statement.{statement}
 use Rattle.receiver.proofs.fresh.Tie as tie
 
-fresh-lock-requires : tie.Need-fresh-lock-requires
-fresh-lock-requires c κs = search needs
+fresh-packed-requires : tie.Need-fresh-packed-requires
+fresh-packed-requires c κs = search needs
 
-state-of-requires : tie.Need-state-of-requires
-state-of-requires c κs = search needs
+unpack-requires : tie.Need-unpack-requires
+unpack-requires c κs = rw (c .fresh-packed .ensures) (packed-small freshOf (proper-fifty freshOf fresh-proper))
 
 returns : tie.Need-returns
-unfolding freshOf
-returns c = rw (c .state-of .ensures, c .before .fresh-lock .ensures)
+returns c = c .unpack .ensures ∙ ap unpacked (c .before .fresh-packed .ensures) ∙ there-and-back freshOf (proper-fifty freshOf fresh-proper)
 
 pub fresh-spec : {M : Type 1} → statement M
-fresh-spec = tie.close (tie.spec fresh-lock-requires state-of-requires returns)
+fresh-spec = tie.close (tie.spec fresh-packed-requires unpack-requires returns)

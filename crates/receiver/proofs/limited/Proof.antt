@@ -5,7 +5,6 @@ use borrow.Author.Tests.{ltb-false, not-true, not-false}
 use mathlib.Core.Path.{sym, _∙_}
 use Rattle.receiver.specs.Changes.{stretchOf}
 use Rattle.receiver.proofs.Changes.{stretch-is}
-use Rattle.receiver.proofs.StaysProper.{room}
 use Rattle.receiver.proofs.limited.Statement.{statement}
 use Rattle.receiver.proofs.limited.Tie as tie
 
@@ -17,7 +16,7 @@ refused-requires c κs = search needs
 
 returns : tie.Need-returns
 unfolding stretchOf
-returns c = rw (c .before .if1 .taken) (c .refused .ensures)
+returns c = rw (c .before .if1 .taken, c .refused .ensures)
 
 refused-requires-2 : tie.Need-refused-requires-2
 refused-requires-2 c κs = search needs
@@ -26,11 +25,10 @@ returns-2 : tie.Need-returns-2
 unfolding stretchOf
 returns-2 c =
     let proper = c .before .before .before .is-proper in
-    rw (c .before .before .if1 .left, ← proper .ensures, not-true (proper .result) (c .before .if2 .taken)) (c .refused2 .ensures)
+    rw (c .before .before .if1 .left, ← proper .ensures, not-true (proper .result) (c .before .if2 .taken), c .refused2 .ensures)
 
 feed-all-requires : tie.Need-feed-all-requires
-feed-all-requires c κs =
-    (room _ (sym (c .before .before .is-proper .ensures) ∙ not-false _ (c .if2 .left)), ltb-false 65536 _ (c .before .if1 .left))
+feed-all-requires c κs = (sym (c .before .before .is-proper .ensures) ∙ not-false _ (c .if2 .left), ltb-false 65536 _ (c .before .if1 .left))
 
 returns-3 : tie.Need-returns-3
 returns-3 c =

@@ -1,4 +1,4 @@
--- `refused` meets its contract: nothing was fed and nothing counted.
+-- `refused` meets its contract: nothing was counted.
 -- Assumes nothing.
 use borrow.Author.Needs.{needs}
 use Rattle.receiver.proofs.refused.Statement.{statement}

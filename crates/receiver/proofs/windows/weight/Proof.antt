@@ -6,8 +6,8 @@ use native.Mathlib.Nat.{one-mul}
 use native.Mathlib.Omega.{arith}
 use lib.Pow.{shl-exact}
 use borrow.Author.Needs.{needs}
-use Rattle.receiver.proofs.states.weight.Statement.{statement}
-use Rattle.receiver.proofs.states.weight.Tie as tie
+use Rattle.receiver.proofs.windows.weight.Statement.{statement}
+use Rattle.receiver.proofs.windows.weight.Tie as tie
 
 sub-result : tie.Need-sub-result
 sub-result c = search needs

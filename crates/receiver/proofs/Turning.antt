@@ -1,0 +1,152 @@
+-- A run bit by bit on the number of the bits that wait, as the loop goes: a bit joins it, and a full window passes its oldest bit
+-- over or is judged and used up. Beside the number stands what the circuit makes of it.
+-- Assumes nothing.
+use mathlib.Core.Bool.{Bool, true, false, not, _&&_, and-eq-true-iff}
+use mathlib.Core.List.{List, _∷_}
+use mathlib.Core.Path.{_≡_, refl, sym, ap, _∙_}
+use Prim.Native.Nat.{ℕ, _+_, _-_, _*_, _/_, _%_, _^_, _<_, _≤_}
+use native.Mathlib.Nat.{add-zero, pow-suc}
+use native.Mathlib.Numerals.{add-one}
+use native.Mathlib.Omega.{arith}
+use borrow.Author.Tests.{eqb-true, not-true, not-false}
+use lib.Dec.{eqb}
+use lib.ListN.{set}
+use lib.Pow.{pow-mono}
+use Rattle.block.specs.Bits.{bitsOf, valueFrom}
+use Rattle.block.specs.Division.{stepBit, remainderFrom, remainder}
+use Rattle.block.specs.Packed.{readBy}
+use Rattle.block.specs.Read.{readOf}
+use Rattle.block.proofs.Reading.{number-reads}
+use Rattle.block.proofs.Stream.{at-the-end, in-front}
+use Rattle.block.proofs.Strings.{bits-bitsOf, rem-lt}
+use Rattle.locking.specs.declared.Judged.{Judged}
+use Rattle.locking.specs.declared.Lock.{Lock}
+use Rattle.locking.specs.Locks.{hunting, lockProper}
+use Rattle.locking.specs.Modes.{isGood, passedOver, judgedBy}
+use Rattle.locking.proofs.Choices.{passes-over, uses-up}
+use Rattle.locking.proofs.NoTime.{hunting-fresh}
+use Rattle.receiver.specs.declared.PackedState.{PackedState}
+use Rattle.receiver.specs.States.{stateOf, lockIn, nothingWaits}
+use Rattle.receiver.specs.Runs.{ended}
+use Rattle.receiver.specs.Packed.{packedOf, packed, unpacked, packedProper, packedRan}
+use Rattle.receiver.specs.Changes.{sameLock, withFed}
+use Rattle.receiver.proofs.StaysProper.{room, bits-and-lock}
+use Rattle.receiver.proofs.Numbers.{placesOf, joins, full, passes, used-up, raised-value, lowered, proper-number}
+use Rattle.receiver.proofs.Layouts.{proper-small, proper-unpacked}
+use Rattle.receiver.proofs.Running.{goesOn, same-lock, on-waits, on-judges, on-ends}
+
+-- ---- the circuit
+
+module _ (w n : ℕ) where
+  pub register-lt : remainder (bitsOf w n) < 8192
+  register-lt = rem-lt (bitsOf w n) 0 (omega arith) (bits-bitsOf w n)
+
+  module _ (b : ℕ) (bit : b < 2) where
+    pub one-more : n < 2 ^ w → n * 2 + b < 2 ^ (w + 1)
+    one-more h = rw (add-one, pow-suc) (omega arith)
+
+    pub has-room : w < 50 → n < 2 ^ w → n * 2 + b < 2 ^ 50
+    has-room k h = let e : w + 1 ≤ 50 = omega arith in omega (arith, one-more h, pow-mono e)
+
+    pub turned : (r t : ℕ) → r ≡ remainder (bitsOf w n) → t ≡ stepBit r b → t ≡ remainder (bitsOf (w + 1) (n * 2 + b))
+    turned r t e d = d ∙ ap (λ (q : ℕ). stepBit q b) e ∙ sym (at-the-end w n b bit)
+
+-- where nothing waits the register holds nothing
+pub nothing-in : 0 ≡ remainder (bitsOf 0 0)
+unfolding bitsOf remainderFrom
+nothing-in = refl
+
+-- ---- the start and the end
+
+-- the window put back into the state
+pub put-back : (l : Lock) (w n : ℕ) → n < 2 ^ w → packedOf l w (n * 2 ^ (50 - w)) ≡ packed (stateOf l w (placesOf w n))
+put-back l w n h = rw (raised-value w n h)
+
+pub nothing-left : (l : Lock) → packedOf l 0 0 ≡ packed (nothingWaits l)
+unfolding valueFrom
+nothing-left l = refl
+
+module _ (p : PackedState) (e : packedProper p ≡ true) where
+  pub few : p .waiting < 50
+  few = room (unpacked p) (proper-unpacked p e .proper)
+
+  window-in : (bitsOf 50 (p .bits) ≡ placesOf (p .waiting) (p .bits / 2 ^ (50 - p .waiting))) × (p .bits / 2 ^ (50 - p .waiting) < 2 ^ p .waiting)
+  window-in =
+      let w : ℕ = p .waiting in
+      let h : w ≤ 50 = omega (arith, few) in
+      let proper = bits-and-lock (unpacked p) (proper-unpacked p e .proper) .0 in
+      lowered w (p .bits) h (proper-small p e) (eqb-true (p .bits % 2 ^ (50 - w)) 0 (sym (proper-number w (p .bits) h) ∙ proper))
+
+  module _ (l : Lock) (taken : l ≡ lockIn (unpacked p)) (q : ℕ) (weight : q ≡ 2 ^ (50 - p .waiting)) where
+    pub window-lt : p .bits / q < 2 ^ p .waiting
+    window-lt = rw weight (window-in .1)
+
+    pub begun : (r : ℕ) → r ≡ remainder (bitsOf 49 (p .bits / q)) → r ≡ remainder (bitsOf (p .waiting) (p .bits / q))
+    begun r d =
+        let k : 49 - p .waiting + p .waiting ≡ 49 = omega (arith, few) in
+        d ∙ rw k at (in-front (49 - p .waiting) (p .waiting) (p .bits / q) window-lt)
+
+    -- the state taken apart and put together
+    pub entered : (stop : Bool) (bits : List ℕ) → goesOn stop bits 0 0 0 0 (stateOf l (p .waiting) (placesOf (p .waiting) (p .bits / q))) ≡ goesOn stop bits 0 0 0 0 (unpacked p)
+    entered stop bits = rw (taken, weight, ← window-in .0)
+
+-- ---- a full window
+
+module _ (v left : ℕ) (h : v < 2 ^ 50) (d : left ≡ remainder (bitsOf 49 v)) (l : Lock) where
+  pub reads : readBy v left ≡ readOf (bitsOf 50 v)
+  reads = ap (readBy v) d ∙ number-reads v h
+
+  -- the test for passing over, and what it comes to
+  module _ (t : Bool) (e : t ≡ (eqb (l .mode) hunting && not (isGood (readBy v left)))) where
+    pub is-over : lockProper l ≡ true → t ≡ true → passedOver l ≡ judgedBy l (readOf (bitsOf 50 v))
+    is-over proper k =
+        let both = and-eq-true-iff (eqb (l .mode) hunting) _ .0 (sym e ∙ k) in
+        let m : l .mode ≡ hunting = eqb-true (l .mode) hunting (both .0) in
+        ap passedOver (hunting-fresh l proper m) ∙ sym (passes-over l (readOf (bitsOf 50 v)) m (rw reads at (not-true (isGood (readBy v left)) (both .1))))
+
+    pub not-over : t ≡ false → judgedBy l (readOf (bitsOf 50 v)) .passed ≡ 0
+    not-over k = uses-up l (readOf (bitsOf 50 v)) (λ m. rw reads at (not-false (isGood (readBy v left)) (rw m at (sym e ∙ k))))
+
+-- ---- one bit
+
+-- what goes on from the same lock, number and counts is the same
+pub goes-same : (stop : Bool) (bs : List ℕ) (fed : ℕ) {l k : Lock} {w v n m g good b bad p passed : ℕ} → l ≡ k → w ≡ v → n ≡ m → g ≡ good → b ≡ bad → p ≡ passed
+    → goesOn stop bs fed g b p (stateOf l w (placesOf w n)) ≡ goesOn stop bs fed good bad passed (stateOf k v (placesOf v m))
+goes-same stop bs fed el ew en eg eb ep = rw (el, ew, en, eg, eb, ep)
+
+module _ (stop : Bool) (fed good bad passed b : ℕ) (bs : List ℕ) (bit : b < 2) (l : Lock) (w n : ℕ) where
+  pub more-wait : w < 49
+      → goesOn stop (b ∷ bs) fed good bad passed (stateOf l w (placesOf w n))
+      ≡ goesOn stop bs (fed + 1) good bad passed (stateOf l (w + 1) (placesOf (w + 1) (n * 2 + b)))
+  more-wait h =
+      on-waits stop fed good bad passed b bs bit l w (placesOf w n) h
+      ∙ ap (λ (t : List ℕ). goesOn stop bs (fed + 1) good bad passed (stateOf l (w + 1) t)) (joins w n b (omega arith) bit)
+
+  module _ (h : w + 1 ≡ 50) (j : Judged) (e : j ≡ judgedBy l (readOf (bitsOf 50 (n * 2 + b)))) where
+    filled : set (placesOf w n) w b ≡ bitsOf 50 (n * 2 + b)
+    filled = joins w n b (omega arith) bit ∙ ap (λ (k : ℕ). placesOf k (n * 2 + b)) h ∙ full (n * 2 + b)
+
+    judged : j ≡ judgedBy l (readOf (set (placesOf w n) w b))
+    judged = e ∙ sym (ap (λ (t : List ℕ). judgedBy l (readOf t)) filled)
+
+    pub goes-over : j ≡ passedOver l
+        → goesOn stop (b ∷ bs) fed good bad passed (stateOf l w (placesOf w n))
+        ≡ goesOn stop bs (fed + 1) good bad (passed + 1) (stateOf l 49 (placesOf 49 ((n * 2 + b) % 2 ^ 49)))
+    goes-over k =
+        rw (k, add-zero good, add-zero bad, filled, passes (n * 2 + b))
+        at (on-judges stop fed good bad passed b bs bit l w (placesOf w n) (omega arith) j judged (λ _. rw k (same-lock (l .mode))))
+
+    module _ (k : j .passed ≡ 0) where
+      pub goes-on : (stop ≡ true → sameLock (l .mode) (j .lock .mode) ≡ true)
+          → goesOn stop (b ∷ bs) fed good bad passed (stateOf l w (placesOf w n))
+          ≡ goesOn stop bs (fed + 1) (good + j .good) (bad + j .bad) passed (stateOf (j .lock) 0 (placesOf 0 0))
+      goes-on same =
+          rw (k, add-zero passed, ← used-up)
+          at (on-judges stop fed good bad passed b bs bit l w (placesOf w n) (omega arith) j judged same)
+
+      pub ends-here : stop ≡ true → sameLock (l .mode) (j .lock .mode) ≡ false
+          → goesOn stop (b ∷ bs) fed good bad passed (stateOf l w (placesOf w n))
+          ≡ withFed (packedRan (ended 0 (good + j .good) (bad + j .bad) passed (nothingWaits (j .lock)))) (fed + 1)
+      ends-here stops change =
+          rw (k, add-zero passed)
+          at (on-ends stop fed good bad passed b bs bit l w (placesOf w n) (omega arith) j judged stops change)
