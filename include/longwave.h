@@ -4,6 +4,11 @@
  * 50 of them: prefix 1, code 4, word 32, check word 13. The Polish frame alone
  * is otherwise: it is 12 whole bytes of eight bits each, first sent bit highest.
  *
+ * A block can also be kept as one 64-bit number, which takes 8 bytes and not 50:
+ * the first sent bit in place 49, the last in place 0, places 50 to 63 zero. The
+ * calls with `packed` in their names work on such numbers and answer in every
+ * case as the calls on bytes do.
+ *
  * No call keeps a pointer. A pointer must not be null, not even with length 0,
  * and must be valid for the length beside it; what is lent for writing must
  * not overlap anything else in the same call. Any length and any values of
@@ -37,6 +42,7 @@ enum {
     LW_WRONG_YEAR = 8,        /* the first of the 28 years, or a written year, is out of range */
     LW_RUN_TOO_LONG = 9,      /* a run is longer than 65,536 bits */
     LW_IMPROPER = 10,         /* the lent state is not proper */
+    LW_NUMBER_TOO_WIDE = 14,  /* a number has a bit above place 49 */
     LW_WRONG_SIZE = 19,       /* a frame is not 12 long, or a field to be written is too wide */
     LW_WRONG_FIXED_BITS = 20, /* a fixed bit of a frame is wrong */
     LW_NO_CODEWORD = 21,      /* no codeword differs from a frame's symbols in at most three */
@@ -64,6 +70,33 @@ uint8_t lw_write_block(uint8_t code, uint32_t word, uint8_t *bits, size_t len);
  * refusal that reading the first gives. The bytes of both stay as they are. */
 uint8_t lw_choose(const uint8_t *first, size_t first_len,
                   const uint8_t *second, size_t second_len, uint8_t *number);
+
+/* A block as one number; 0 where refused. */
+typedef struct lw_packed {
+    uint8_t refusal;
+    uint64_t block;
+} lw_packed;
+
+/* Reads a block from a number and answers its code and word.
+ * Refusals, in this order: 14, 3, 4. */
+lw_block lw_read_packed(uint64_t block);
+
+/* Answers the block of a code (0 to 15) and any word as a number. Refusal: 6. */
+lw_packed lw_write_packed(uint8_t code, uint32_t word);
+
+/* Chooses between two aerials, as lw_choose does: 1, 2 or 0. Always sets
+ * `*number`: to 0 with a block, else to the refusal that reading the first
+ * gives, 14, 3 or 4. */
+uint8_t lw_choose_packed(uint64_t first, uint64_t second, uint8_t *number);
+
+/* Answers 50 bits as a number, whether they are a good block or not.
+ * Refusals, in this order: 2, 1. The bytes stay as they are. */
+lw_packed lw_pack(const uint8_t *bits, size_t len);
+
+/* Writes the bits of a number over all 50 bytes, whatever they held, and whether
+ * it is a good block or not. Answers 0, or a refusal, in this order: 2, 14; the
+ * bytes then stay as they are. */
+uint8_t lw_unpack(uint64_t block, uint8_t *bits, size_t len);
 
 /* What a time block says of the minute that begins with the first bit of the
  * next block. Time is UTC. The offset of local time is carried along with
@@ -182,6 +215,35 @@ lw_counts lw_feed(lw_state *state, uint8_t bit);
  * Refusals, in this order: 9, 10, and the state then stays as it is; or 1 at a
  * bit that is none, and state and counts are then those of the bits before it. */
 lw_counts lw_run(lw_state *state, const uint8_t *bits, size_t len);
+
+/* A receiver's state with the waiting bits in one number. It belongs to the
+ * caller, who may copy it; all zeros are a fresh one. The bytes that the compiler
+ * leaves between the fields do not matter.
+ *
+ * It is proper when the places of `bits` that are not in use are 0, above place
+ * 49 and below the last waiting bit, and the rest is as in a proper lw_state. */
+typedef struct lw_packed_state {
+    uint8_t mode;            /* as in lw_state, here and where nothing is said below */
+    uint8_t good;
+    uint8_t bad;
+    uint8_t waiting;         /* 0 to 49 bits wait to be judged */
+    uint64_t bits;           /* these bits: the oldest in place 49, the next in place 48 */
+    uint8_t time;
+    struct lw_record record;
+    uint8_t age;
+} lw_packed_state;
+
+/* Answers a fresh packed state: hunting, with nothing waiting and no time. */
+lw_packed_state lw_fresh_packed(void);
+
+/* Feeds one bit, as a run of that bit alone.
+ * Refusals, in this order: 10, 1; the state then stays as it is. */
+lw_counts lw_feed_packed(lw_packed_state *state, uint8_t bit);
+
+/* Feeds up to 65,536 bits, each still a byte, first sent bit first.
+ * Refusals, in this order: 9, 10, and the state then stays as it is; or 1 at a
+ * bit that is none, and state and counts are then those of the bits before it. */
+lw_counts lw_run_packed(lw_packed_state *state, const uint8_t *bits, size_t len);
 
 /* What a Polish frame tells, the time signal on 225 kHz. The seven fields behind
  * the count are one bit each. Where two of them belong together, a table gives
