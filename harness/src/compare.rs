@@ -1,10 +1,12 @@
 //! One call to the library and the same question to the independent program:
 //! answers and every lent byte must agree, and no byte beside them may change.
 
+mod packed;
 mod polish;
 mod receiver;
 mod record;
 
+pub use packed::*;
 pub use polish::*;
 pub use receiver::*;
 pub use record::*;
@@ -41,10 +43,7 @@ impl Guarded {
 pub fn reading(bits: &[u8]) -> Block {
     let mut lent = Guarded::holding(bits);
     let answer = face::read_block(lent.content());
-    let expected = match independent::read(bits) {
-        Ok((code, word)) => Block::taken(code, word),
-        Err(refusal) => Block::refused(refusal),
-    };
+    let expected = Block::from(independent::read(bits));
     assert_eq!((answer, lent.after()), (expected, Guarded::holding(bits)), "reading {bits:?}");
     answer
 }

@@ -1,9 +1,13 @@
 //! Safe calls to the library, as `include/longwave.h` declares them.
 
+mod packed;
+mod packed_state;
 mod polish;
 mod receiver;
 mod record;
 
+pub use packed::*;
+pub use packed_state::*;
 pub use polish::*;
 pub use receiver::*;
 pub use record::*;
@@ -26,6 +30,15 @@ impl Block {
     /// A block that was taken.
     pub fn taken(code: u8, word: u32) -> Self {
         Block { refusal: 0, code, word }
+    }
+}
+
+impl From<Result<(u8, u32), u8>> for Block {
+    fn from(answer: Result<(u8, u32), u8>) -> Self {
+        match answer {
+            Ok((code, word)) => Block::taken(code, word),
+            Err(refusal) => Block::refused(refusal),
+        }
     }
 }
 

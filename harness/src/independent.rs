@@ -1,16 +1,19 @@
 //! The answers, written from documents 01 and 02 alone. Here the block, by long
-//! division on one number; the record, the calendar, the receiver and the Polish
-//! frame have files of their own.
+//! division on one number; the block that stays a number, the record, the
+//! calendar, the receiver, its packed state and the Polish frame have files of
+//! their own.
 //!
 //! A polynomial modulo 2 is a number, one bit for each power of x, and a block
 //! is its fifty bits as one number: bit 49 is the first sent.
 
 pub mod calendar;
+pub mod packed;
+pub mod packed_state;
 pub mod polish;
 pub mod receiver;
 pub mod record;
 
-use crate::refusals::{NOT_A_BIT, OUT_OF_RANGE, WRONG_CHECK_WORD, WRONG_LENGTH, WRONG_PREFIX};
+use crate::refusals::{OUT_OF_RANGE, WRONG_LENGTH};
 
 /// Places in a block.
 pub const BLOCK: usize = 50;
@@ -49,22 +52,7 @@ pub fn bits_of(block: u64) -> [u8; BLOCK] {
 
 /// Code and word, or the refusal.
 pub fn read(bits: &[u8]) -> Result<(u8, u32), u8> {
-    if bits.len() != BLOCK {
-        return Err(WRONG_LENGTH);
-    }
-    if bits.iter().any(|&bit| bit > 1) {
-        return Err(NOT_A_BIT);
-    }
-    let block = bits.iter().fold(0, |number, &bit| number << 1 | u64::from(bit));
-    if block & PREFIX == 0 {
-        return Err(WRONG_PREFIX);
-    }
-    // Message and check word together divide evenly exactly when the check
-    // word is the remainder.
-    if remainder(block ^ PREFIX) != 0 {
-        return Err(WRONG_CHECK_WORD);
-    }
-    Ok(((block >> 45 & 15) as u8, (block >> 13) as u32))
+    packed::pack(bits).and_then(packed::read)
 }
 
 /// The fifty bits to be written into a slice of `len`, or the refusal.

@@ -10,6 +10,7 @@ pub const NOT_IN_YEAR: u8 = 7;
 pub const WRONG_YEAR: u8 = 8;
 pub const RUN_TOO_LONG: u8 = 9;
 pub const IMPROPER: u8 = 10;
+pub const NUMBER_TOO_WIDE: u8 = 14;
 pub const WRONG_SIZE: u8 = 19;
 pub const WRONG_FIXED_BITS: u8 = 20;
 pub const NO_CODEWORD: u8 = 21;

@@ -1,12 +1,16 @@
 //! The library's receiver from given states: proper ones that go on, others
-//! that are refused, and runs of every kind of length and content.
+//! that are refused, and runs of every kind of length and content. `Receiver`
+//! and `improper` take each state in both layouts.
+
+use std::fmt::Debug;
 
 use harness::compare::{improper, Receiver};
 use harness::face::{
-    Counts, Record, State, CANDIDATE, CONFIRMED, HUNTING, LOCKED, NO_TIME, TRYING,
+    self, Counts, Record, State, CANDIDATE, CONFIRMED, HUNTING, LOCKED, NO_TIME, TRYING,
 };
 use harness::feeds::{bits_of_all, time_block, troubled, unusable_time_block, MISHAPS};
 use harness::fields;
+use harness::independent::packed_state::packed;
 use harness::independent::receiver::{is_proper, RUN};
 use harness::independent::{bits_of, block, calendar, BLOCK, PREFIX};
 use harness::random::{report, Random};
@@ -247,20 +251,32 @@ fn a_run_of_two_strings_is_two_runs() {
             bits = troubled(&mut random, 8, 50, |random| MISHAPS[random.below(MISHAPS.len())]);
         }
         let state = proper_states()[random.below(proper_states().len())];
-        let (first, second) = bits.split_at(random.below(bits.len()));
-        let mut whole = state;
-        let counts = harness::face::run(&mut whole, &bits);
-        let mut parts = state;
-        let one = harness::face::run(&mut parts, first);
-        let other = harness::face::run(&mut parts, second);
-        let sum = Counts {
-            refusal: 0,
-            good: one.good + other.good,
-            bad: one.bad + other.bad,
-            passed: one.passed + other.passed,
-            waiting: other.waiting,
-        };
-        assert_eq!((counts, whole), (sum, parts), "split after {} bits", first.len());
+        let parts = bits.split_at(random.below(bits.len()));
+        must_be_two_runs(face::run, state, &bits, parts);
+        let state = packed(&state).expect("places that hold bits");
+        must_be_two_runs(face::run_packed, state, &bits, parts);
     }
     report("runs of two strings", COUNT);
+}
+
+/// A run of the whole must leave and count what runs of its two parts do.
+fn must_be_two_runs<S: Copy + Debug + PartialEq>(
+    run: fn(&mut S, &[u8]) -> Counts,
+    state: S,
+    bits: &[u8],
+    (first, second): (&[u8], &[u8]),
+) {
+    let mut whole = state;
+    let counts = run(&mut whole, bits);
+    let mut parts = state;
+    let one = run(&mut parts, first);
+    let other = run(&mut parts, second);
+    let sum = Counts {
+        refusal: 0,
+        good: one.good + other.good,
+        bad: one.bad + other.bad,
+        passed: one.passed + other.passed,
+        waiting: other.waiting,
+    };
+    assert_eq!((counts, whole), (sum, parts), "split after {} bits", first.len());
 }

@@ -1,0 +1,65 @@
+//! The block that stays one number: bit 49 is the first sent, and nothing
+//! stands above it.
+
+use super::{bits_of, block, remainder, BLOCK, PREFIX};
+use crate::refusals::{
+    NOT_A_BIT, NUMBER_TOO_WIDE, OUT_OF_RANGE, WRONG_CHECK_WORD, WRONG_LENGTH, WRONG_PREFIX,
+};
+
+/// The largest number of fifty bits.
+pub const LARGEST: u64 = PREFIX * 2 - 1;
+
+/// Code and word, or the refusal.
+pub fn read(block: u64) -> Result<(u8, u32), u8> {
+    if block > LARGEST {
+        return Err(NUMBER_TOO_WIDE);
+    }
+    if block & PREFIX == 0 {
+        return Err(WRONG_PREFIX);
+    }
+    // Message and check word together divide evenly exactly when the check
+    // word is the remainder.
+    if remainder(block ^ PREFIX) != 0 {
+        return Err(WRONG_CHECK_WORD);
+    }
+    Ok(((block >> 45 & 15) as u8, (block >> 13) as u32))
+}
+
+/// The block, or the refusal.
+pub fn write(code: u8, word: u32) -> Result<u64, u8> {
+    if code > 15 {
+        return Err(OUT_OF_RANGE);
+    }
+    Ok(block(code, word))
+}
+
+/// Which of the two is the block, 0 for neither, and the number beside it.
+pub fn choose(first: u64, second: u64) -> (u8, u8) {
+    match (read(first), read(second)) {
+        (Ok(_), _) => (1, 0),
+        (Err(_), Ok(_)) => (2, 0),
+        (Err(number), Err(_)) => (0, number),
+    }
+}
+
+/// Fifty bits, a good block or not, as a number, or the refusal.
+pub fn pack(bits: &[u8]) -> Result<u64, u8> {
+    if bits.len() != BLOCK {
+        return Err(WRONG_LENGTH);
+    }
+    if bits.iter().any(|&bit| bit > 1) {
+        return Err(NOT_A_BIT);
+    }
+    Ok(bits.iter().fold(0, |number, &bit| number << 1 | u64::from(bit)))
+}
+
+/// The fifty bits to be written into a slice of `len`, or the refusal.
+pub fn unpack(block: u64, len: usize) -> Result<[u8; BLOCK], u8> {
+    if len != BLOCK {
+        Err(WRONG_LENGTH)
+    } else if block > LARGEST {
+        Err(NUMBER_TOO_WIDE)
+    } else {
+        Ok(bits_of(block))
+    }
+}
