@@ -18,8 +18,8 @@ const NAMES: [&str; 3] = ["product", "table", "bitwise"];
 const READERS: [Reader; 3] = [face::read_block, table::read, bitwise::read];
 const WRITERS: [Writer; 3] = [face::write_block, table::write, bitwise::write];
 
-const BLOCKS: usize = 300_000;
-const ROUNDS: usize = 60;
+pub const BLOCKS: usize = 300_000;
+pub const ROUNDS: usize = 60;
 
 pub fn measure() {
     println!("blocks: {BLOCKS}, best of {ROUNDS} rounds");
@@ -48,7 +48,7 @@ fn to_read(random: &mut Random) -> [u8; BLOCK] {
     }
 }
 
-fn to_write(random: &mut Random) -> (u8, u32) {
+pub fn to_write(random: &mut Random) -> (u8, u32) {
     let (code, word) = random.code_and_word();
     match random.below(16) {
         0 => (code + 16, word),

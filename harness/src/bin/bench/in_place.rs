@@ -51,7 +51,6 @@ fn hunt<'a>(state: &mut State, bits: &'a [u8], counts: &mut Counts) -> &'a [u8] 
             continue;
         }
         if fault == GOOD && window & PREFIX != 0 {
-            *state = State::FRESH;
             take(state, good(&bits_of(window)), counts);
             return &bits[place + 1..];
         }
@@ -77,8 +76,6 @@ fn take_block<'a>(state: &mut State, bits: &'a [u8], counts: &mut Counts) -> &'a
     state.waiting += part.len() as u8;
     if usize::from(state.waiting) == BLOCK {
         let read = good(&state.bits);
-        state.bits = [0; BLOCK];
-        state.waiting = 0;
         take(state, read, counts);
     }
     left

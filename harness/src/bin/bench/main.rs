@@ -4,14 +4,21 @@
 mod bits;
 mod bitwise;
 mod blocks;
+mod circuit;
+mod circuit_number;
+mod clock;
 mod contest;
 mod in_place;
+mod numbers;
+mod packed_table;
 mod polish;
 mod polish_table;
 mod program;
 mod receiver;
+mod standing;
 mod stepwise;
 mod table;
+mod table_number;
 
 use std::env;
 
@@ -22,6 +29,7 @@ fn main() {
         None => {
             println!("bench: seed {}", seed());
             blocks::measure();
+            numbers::measure();
             receiver::measure();
             polish::measure();
             program::measure();

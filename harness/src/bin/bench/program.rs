@@ -1,5 +1,5 @@
 //! Bits per second through a receiver program that reads a file: the product's,
-//! if `RECEIVE_BIN` names it, and one by hand.
+//! if `RECEIVE_BIN` names it, and one by hand, which does what `circuit` does.
 
 use std::io::{self, Read};
 use std::path::{Path, PathBuf};
@@ -7,20 +7,20 @@ use std::process::Command;
 use std::time::{Duration, Instant};
 use std::{env, fs, process};
 
-use harness::face::{Counts, State, LOCKED};
+use harness::face::{Counts, PackedState};
 use harness::program::{output, product};
 
+use crate::circuit::Circuit;
 use crate::contest::{best_times, show};
 use crate::receiver::{clean_feed, random_bits};
-use crate::stepwise;
 
 /// The argument that turns this program into the receiver by hand.
 pub const BY_HAND: &str = "receive";
 
-const NAMES: [&str; 2] = ["product", "by hand"];
+const NAMES: [&str; 2] = ["product", "circuit"];
 
 const BITS: usize = 10_000_000;
-const ROUNDS: usize = 5;
+const ROUNDS: usize = 10;
 
 /// How much is read at once.
 const PIECE: usize = 1 << 16;
@@ -71,11 +71,22 @@ fn run(mut command: Command, input: &Path) -> (Duration, String) {
     (start.elapsed(), printed)
 }
 
+// By value: what is printed by reference would not stay in a register.
+
+fn tell(locked: bool, fed: u64) {
+    println!("{} {fed}", if locked { "LOCK" } else { "LOST" });
+}
+
+fn tell_end(fed: u64, counts: Counts, waiting: u8) {
+    println!("END {fed} {} {} {} {waiting}", counts.good, counts.bad, counts.passed);
+}
+
 /// The receiver program by hand.
 pub fn receive() -> io::Result<()> {
-    let mut state = State::FRESH;
+    let mut circuit = Circuit::of(&PackedState::default());
     let mut counts = Counts::default();
     let mut fed = 0;
+    let mut locked = false;
     let mut piece = vec![0; PIECE];
     let mut input = io::stdin().lock();
     'input: loop {
@@ -84,20 +95,21 @@ pub fn receive() -> io::Result<()> {
             break;
         }
         for &byte in &piece[..len] {
-            let bit = match byte {
-                b'0' | b'1' => byte - b'0',
-                b'\n' => continue,
-                _ => break 'input,
-            };
-            let locked = state.mode == LOCKED;
-            stepwise::step(&mut state, bit, &mut counts);
+            let bit = byte.wrapping_sub(b'0');
+            if bit > 1 {
+                match byte {
+                    b'\n' => continue,
+                    _ => break 'input,
+                }
+            }
             fed += 1;
-            if locked != (state.mode == LOCKED) {
-                println!("{} {fed}", if locked { "LOST" } else { "LOCK" });
+            // Lock comes and goes with a block alone.
+            if circuit.step(bit, &mut counts) && circuit.is_locked() != locked {
+                locked = !locked;
+                tell(locked, fed);
             }
         }
     }
-    let Counts { good, bad, passed, .. } = counts;
-    println!("END {fed} {good} {bad} {passed} {}", state.waiting);
+    tell_end(fed, counts, circuit.state().waiting);
     Ok(())
 }

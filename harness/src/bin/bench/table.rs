@@ -18,7 +18,7 @@ const TABLE: [u16; 256] = {
     table
 };
 
-fn step(register: u16, byte: u8) -> u16 {
+pub fn step(register: u16, byte: u8) -> u16 {
     (register << 8 & 0x1FFF) ^ TABLE[usize::from((register >> 5) as u8 ^ byte)]
 }
 

@@ -1,0 +1,84 @@
+//! What a receiver by hand knows beside its waiting bits, and what a block that
+//! was used up does to it.
+
+use harness::face::{
+    Block, Counts, PackedState, Record, State, CANDIDATE, CONFIRMED, LOCKED, NO_TIME, TRYING,
+};
+use harness::independent::{record, BLOCK};
+
+use crate::clock;
+
+#[derive(Clone, Copy, Default)]
+pub struct Standing {
+    pub mode: u8,
+    good: u8,
+    bad: u8,
+    time: u8,
+    record: Record,
+    age: u8,
+}
+
+impl Standing {
+    pub fn of(state: &State) -> Self {
+        let State { mode, good, bad, time, record, age, .. } = *state;
+        Standing { mode, good, bad, time, record, age }
+    }
+
+    pub fn of_packed(state: &PackedState) -> Self {
+        let PackedState { mode, good, bad, time, record, age, .. } = *state;
+        Standing { mode, good, bad, time, record, age }
+    }
+
+    /// The state with these bits waiting.
+    pub fn with_bytes(self, waiting: u8, bits: [u8; BLOCK]) -> State {
+        let Standing { mode, good, bad, time, record, age } = self;
+        State { mode, good, bad, waiting, bits, time, record, age }
+    }
+
+    /// The packed state with these bits waiting.
+    pub fn with_number(self, waiting: u8, bits: u64) -> PackedState {
+        let Standing { mode, good, bad, time, record, age } = self;
+        PackedState { mode, good, bad, waiting, bits, time, record, age }
+    }
+
+    /// What it is after a block that was used up. While hunting that is a good
+    /// one. By value and never inlined, so that a loop over bits may keep all it
+    /// works on in registers.
+    #[inline(never)]
+    pub fn after(self, read: Option<Block>) -> Self {
+        match (self.mode, read) {
+            (LOCKED, Some(_)) => Standing { bad: 0, ..self.offered(read) },
+            (LOCKED, None) if self.bad < 3 => Standing { bad: self.bad + 1, ..self.offered(read) },
+            (_, None) => Standing::default(),
+            (_, Some(_)) if self.good == 2 => Standing { mode: LOCKED, ..Standing::default() },
+            (_, Some(_)) => Standing { mode: TRYING, good: self.good + 1, ..self },
+        }
+    }
+
+    /// The block as it is offered to the time.
+    fn offered(self, read: Option<Block>) -> Self {
+        let age = self.age + u8::from(self.time != NO_TIME);
+        if let Some(record) = read.and_then(usable) {
+            let held = Record { offset: record.offset, ..self.record };
+            let confirmed = age == 30 && clock::next_minute(held) == Some(record);
+            let time = if confirmed { CONFIRMED } else { CANDIDATE };
+            Standing { time, record, age: 0, ..self }
+        } else if age == 30 {
+            Standing { time: NO_TIME, record: Record::default(), age: 0, ..self }
+        } else {
+            Standing { age, ..self }
+        }
+    }
+}
+
+/// Counts a block that was used up.
+#[inline]
+pub fn count(good: bool, counts: &mut Counts) {
+    counts.good += u32::from(good);
+    counts.bad += u32::from(!good);
+}
+
+/// What a usable time block tells.
+fn usable(block: Block) -> Option<Record> {
+    record::read(block.code, block.word).ok().filter(clock::usable)
+}
