@@ -2,11 +2,13 @@
 // stands here on the lowest.
 ghost use mathlib.Core.Path.{_≡_};
 ghost use Rattle.block.specs.Choose.{choiceOf, chosen, told};
+ghost use Rattle.block.specs.Packed.{readPacked, writePacked, choosePacked, packOf, unpackOf, unpackedOf};
 ghost use Rattle.block.specs.Read.{readOf};
 ghost use Rattle.block.specs.Write.{writeOf, writtenOf, refusalOf};
-ghost use Rattle.face_block.specs.Face.{blockFace, versionOf};
+ghost use Rattle.face_block.specs.Face.{blockFace, packedFace, versionOf};
 ghost use lib.ListN.{length};
 use block::Choice;
+use block::Packed;
 use block::Read;
 use block::Written;
 
@@ -18,11 +20,19 @@ pub struct BlockAnswer {
     pub word: u32,
 }
 
-#[no_mangle]
-pub extern "C" fn lw_read_block(bits: &[u8]) -> BlockAnswer
-    ensures { λ r. ⌜ r ≡ blockFace (readOf (now (bits .entry))) ⌝ }
+// A block as one number: the refusal's number, 0 for none, then the block, zero where refused.
+#[repr(C)]
+pub struct PackedAnswer {
+    pub refusal: u8,
+    pub block: u64,
+}
+
+// ---- each kind of answer as C is told it
+
+fn answer(read: Read) -> BlockAnswer
+    ensures { λ r. ⌜ r ≡ blockFace read ⌝ }
 {
-    match block::read_block(bits) {
+    match read {
         Read::Block { code, word } => BlockAnswer {
             refusal: 0,
             code,
@@ -36,24 +46,33 @@ pub extern "C" fn lw_read_block(bits: &[u8]) -> BlockAnswer
     }
 }
 
-// The refusal's number, 0 where the block is written.
-#[no_mangle]
-pub extern "C" fn lw_write_block(code: u8, word: u32, bits: &mut [u8]) -> u8
-    ensures { λ r. ⌜ (r ≡ refusalOf (writeOf (length (now (bits .entry))) code)) × (now (bits .exit) ≡ writtenOf (now (bits .entry)) code word) ⌝ }
+fn packed_answer(packed: Packed) -> PackedAnswer
+    ensures { λ r. ⌜ r ≡ packedFace packed ⌝ }
 {
-    match block::write_block(code, word, bits) {
+    match packed {
+        Packed::Number(block) => PackedAnswer { refusal: 0, block },
+        Packed::Refused(refusal) => PackedAnswer {
+            refusal: refusal::number(refusal),
+            block: 0,
+        },
+    }
+}
+
+// The refusal's number, 0 where all is written.
+fn outcome(written: Written) -> u8
+    ensures { λ r. ⌜ r ≡ refusalOf written ⌝ }
+{
+    match written {
         Written::Whole => 0,
         Written::Refused(refusal) => refusal::number(refusal),
     }
 }
 
 // 1 for the first, 2 for the second, 0 for neither: C is told which, since a slice cannot be handed to it.
-#[no_mangle]
-pub extern "C" fn lw_choose(first: &[u8], second: &[u8], number: &mut u8) -> u8
-    ensures { λ r. ⌜ (r ≡ chosen (choiceOf (now (first .entry)) (now (second .entry))) 1 2 0) × (now (number .exit) ≡ told (choiceOf (now (first .entry)) (now (second .entry)))) ⌝ }
+fn tell(choice: Choice, number: &mut u8) -> u8
+    ensures { λ r. ⌜ (r ≡ chosen choice 1 2 0) × (now (number .exit) ≡ told choice) ⌝ }
 {
-    let which = block::choose_between(first, second);
-    match which {
+    match choice {
         Choice::First => {
             *number = 0;
             1
@@ -67,6 +86,66 @@ pub extern "C" fn lw_choose(first: &[u8], second: &[u8], number: &mut u8) -> u8
             0
         }
     }
+}
+
+// ---- the block in memory
+
+#[no_mangle]
+pub extern "C" fn lw_read_block(bits: &[u8]) -> BlockAnswer
+    ensures { λ r. ⌜ r ≡ blockFace (readOf (now (bits .entry))) ⌝ }
+{
+    answer(block::read_block(bits))
+}
+
+#[no_mangle]
+pub extern "C" fn lw_write_block(code: u8, word: u32, bits: &mut [u8]) -> u8
+    ensures { λ r. ⌜ (r ≡ refusalOf (writeOf (length (now (bits .entry))) code)) × (now (bits .exit) ≡ writtenOf (now (bits .entry)) code word) ⌝ }
+{
+    outcome(block::write_block(code, word, bits))
+}
+
+#[no_mangle]
+pub extern "C" fn lw_choose(first: &[u8], second: &[u8], number: &mut u8) -> u8
+    ensures { λ r. ⌜ (r ≡ chosen (choiceOf (now (first .entry)) (now (second .entry))) 1 2 0) × (now (number .exit) ≡ told (choiceOf (now (first .entry)) (now (second .entry)))) ⌝ }
+{
+    tell(block::choose_between(first, second), number)
+}
+
+// ---- the block as one number
+
+#[no_mangle]
+pub extern "C" fn lw_read_packed(block: u64) -> BlockAnswer
+    ensures { λ r. ⌜ r ≡ blockFace (readPacked block) ⌝ }
+{
+    answer(block::read_packed(block))
+}
+
+#[no_mangle]
+pub extern "C" fn lw_write_packed(code: u8, word: u32) -> PackedAnswer
+    ensures { λ r. ⌜ r ≡ packedFace (writePacked code word) ⌝ }
+{
+    packed_answer(block::write_packed(code, word))
+}
+
+#[no_mangle]
+pub extern "C" fn lw_choose_packed(first: u64, second: u64, number: &mut u8) -> u8
+    ensures { λ r. ⌜ (r ≡ chosen (choosePacked first second) 1 2 0) × (now (number .exit) ≡ told (choosePacked first second)) ⌝ }
+{
+    tell(block::choose_packed(first, second), number)
+}
+
+#[no_mangle]
+pub extern "C" fn lw_pack(bits: &[u8]) -> PackedAnswer
+    ensures { λ r. ⌜ r ≡ packedFace (packOf (now (bits .entry))) ⌝ }
+{
+    packed_answer(block::pack(bits))
+}
+
+#[no_mangle]
+pub extern "C" fn lw_unpack(block: u64, bits: &mut [u8]) -> u8
+    ensures { λ r. ⌜ (r ≡ refusalOf (unpackOf (length (now (bits .entry))) block)) × (now (bits .exit) ≡ unpackedOf (now (bits .entry)) block) ⌝ }
+{
+    outcome(block::unpack(block, bits))
 }
 
 // The library's version.

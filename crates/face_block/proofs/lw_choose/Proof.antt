@@ -1,45 +1,8 @@
--- `lw_choose` meets its contract: each return is the case of the choice that led there.
+-- `lw_choose` meets its contract: the callee's choice as it is told.
 -- Assumes nothing.
 use borrow.Author.Needs.{needs}
-use mathlib.Core.Path.{refl}
 use Rattle.face_block.proofs.lw_choose.Statement.{statement}
 use Rattle.face_block.proofs.lw_choose.Tie as tie
 
-choose-between-requires : tie.Need-choose-between-requires
-choose-between-requires c κs = search needs
-
-enum-told : tie.Need-enum-told
-enum-told c = search needs
-
-enum-told-2 : tie.Need-enum-told-2
-enum-told-2 c = search needs
-
-enum-known-which : tie.Need-enum-known-which
-enum-known-which c = search needs
-
-number-requires : tie.Need-number-requires
-number-requires c κs = search needs
-
-returns : tie.Need-returns
-returns c = simp (← c .before .before .choose-between .ensures, c .enum-told .given .1) (refl, refl)
-
-returns-2 : tie.Need-returns-2
-returns-2 c = simp (← c .before .before .choose-between .ensures, c .enum-told2 .given .1) (refl, refl)
-
-returns-3 : tie.Need-returns-3
-returns-3 c =
-    let which = c .before .before in
-    simp (← which .before .before .choose-between .ensures, which .which .given .1) (refl, c .number .ensures)
-
 pub lw-choose-spec : {M : Type 1} → statement M
-lw-choose-spec =
-    tie.close
-    (tie.spec
-    choose-between-requires
-    enum-told
-    enum-told-2
-    enum-known-which
-    number-requires
-    returns
-    returns-2
-    returns-3)
+lw-choose-spec = tie.close (tie.spec (λ c κs. search needs) (λ c κs. search needs) (λ c. rw (← c .before .before .choose-between .ensures) (c .tell .ensures)))
