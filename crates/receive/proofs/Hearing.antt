@@ -15,8 +15,10 @@ use Rattle.receiver.specs.declared.Ran.{Ran}
 use Rattle.receiver.specs.declared.State.{State}
 use Rattle.receiver.specs.Steps.{Step, stepOf}
 use Rattle.receiver.specs.Runs.{runFrom}
+use Rattle.receiver.specs.Packed.{packed, unpacked, packedProper}
 use Rattle.receiver.specs.Changes.{sameLock, toChange}
 use Rattle.receiver.proofs.StaysProper.{Proper, step-proper}
+use Rattle.receiver.proofs.Layouts.{proper-fifty, there-and-back, packed-proper, back-and-there, proper-small, proper-unpacked}
 use Rattle.receiver.proofs.Together.{from-next}
 use Rattle.receiver.proofs.Running.{same-lock}
 use Rattle.receiver.proofs.Changes.{change-length, change-first, change-bits, same-on}
@@ -47,12 +49,26 @@ unfolding toChange
 change-some s [] h = absurd (omega arith)
 change-some s (b ∷ bits) h = omega arith
 
-pub after-proper : (k : Kept) (bits : List ℕ) → Bits bits → Proper (k .state) → Proper (keptAfter k bits .state)
-unfolding keptAfter keptNext
-after-proper k [] h p = p
-after-proper k (b ∷ bits) h p = after-proper (keptNext k b) bits (h .1) (step-proper (k .state) b (h .0) p)
+-- ---- one bit more, in fifty places and packed
 
-pub fed-proper : {start after : Kept} → FedOn start after → Proper (start .state) → Proper (after .state)
+module _ (k : Kept) (b : ℕ) (bit : b < 2) (p : packedProper (k .state) ≡ true) where
+  stepped : Proper (stepOf (unpacked (k .state)) b .next)
+  stepped = step-proper (unpacked (k .state)) b bit (proper-unpacked (k .state) p)
+
+  next-proper : packedProper (keptNext k b .state) ≡ true
+  unfolding keptNext
+  next-proper = packed-proper _ stepped
+
+  next-unpacked : unpacked (keptNext k b .state) ≡ stepOf (unpacked (k .state)) b .next
+  unfolding keptNext
+  next-unpacked = there-and-back _ (proper-fifty _ stepped)
+
+pub after-proper : (k : Kept) (bits : List ℕ) → Bits bits → packedProper (k .state) ≡ true → packedProper (keptAfter k bits .state) ≡ true
+unfolding keptAfter
+after-proper k [] h p = p
+after-proper k (b ∷ bits) h p = after-proper (keptNext k b) bits (h .1) (next-proper k b (h .0) p)
+
+pub fed-proper : {start after : Kept} → FedOn start after → packedProper (start .state) ≡ true → packedProper (after .state) ≡ true
 fed-proper {start} f p = rw (f .fed) (after-proper start (f .history) (f .bits) p)
 
 -- ---- what is said
@@ -68,16 +84,17 @@ said-none m n = rw (same-lock m)
 -- what is said of these bits is said of the last up to the change, by the modes before them and after it
 abbrev Last : Kept → List ℕ → Type 0
 Last k bits =
-    let r : Kept = keptAfter k (toChange (k .state) bits) in
+    let r : Kept = keptAfter k (toChange (unpacked (k .state)) bits) in
     saidOf k bits ≡ saidAt (k .state .mode) (r .state .mode) (r .fed)
 
-pub said-last : (k : Kept) (bits : List ℕ) → Last k bits
+pub said-last : (k : Kept) (bits : List ℕ) → Bits bits → packedProper (k .state) ≡ true → Last k bits
 unfolding saidOf keptAfter keptNext toChange
-said-last k [] = sym (said-none (k .state .mode) (k .fed))
-said-last k (b ∷ bits) = by (sameLock (k .state .mode) (stepOf (k .state) b .next .mode)) refl (said-last (keptNext k b) bits)
+said-last k [] h p = sym (said-none (k .state .mode) (k .fed))
+said-last k (b ∷ bits) h p =
+    by (sameLock (k .state .mode) (keptNext k b .state .mode)) refl (said-last (keptNext k b) bits (h .1) (next-proper k b (h .0) p))
   where
-    by : (same : Bool) → sameLock (k .state .mode) (stepOf (k .state) b .next .mode) ≡ same → Last (keptNext k b) bits → Last k (b ∷ bits)
-    by true e on = rw e (on ∙ sym (said-same (k .state .mode) (stepOf (k .state) b .next .mode) _ _ e))
+    by : (same : Bool) → sameLock (k .state .mode) (keptNext k b .state .mode) ≡ same → Last (keptNext k b) bits → Last k (b ∷ bits)
+    by true e on = rw e (rw (next-unpacked k b (h .0) p) at on ∙ sym (said-same (k .state .mode) (keptNext k b .state .mode) _ _ e))
     by false e on = rw e
 
 -- ---- totals
@@ -97,7 +114,7 @@ totalled k r n =
       good = total (k .good) (r .counts .good);
       bad = total (k .bad) (r .counts .bad);
       passed = total (k .passed) (r .counts .passed);
-      state = r .state;
+      state = packed (r .state);
     }
 
 total-none : (a : ℕ) → a < 2 ^ 64 → total a 0 ≡ a
@@ -116,22 +133,29 @@ next-fits k b =
       passed = mod-lt _ (omega arith);
     }
 
-total-nothing : (k : Kept) → Fitting k → totalled k (runFrom [] 0 0 0 (k .state)) 0 ≡ k
+total-nothing : (k : Kept) → Fitting k → packedProper (k .state) ≡ true → totalled k (runFrom [] 0 0 0 (unpacked (k .state))) 0 ≡ k
 unfolding runFrom
-total-nothing k f =
-    rw (total-none (k .fed) (f .fed), total-none (k .good) (f .good), total-none (k .bad) (f .bad), total-none (k .passed) (f .passed))
+total-nothing k f p =
+    rw (
+      total-none (k .fed) (f .fed),
+      total-none (k .good) (f .good),
+      total-none (k .bad) (f .bad),
+      total-none (k .passed) (f .passed),
+      back-and-there (k .state) (proper-small (k .state) p),
+    )
 
-pub after-run : (k : Kept) (bits : List ℕ) → (bits ≡ [] → Fitting k) → Bits bits
-    → keptAfter k bits ≡ totalled k (runFrom bits 0 0 0 (k .state)) (length bits)
+pub after-run : (k : Kept) (bits : List ℕ) → (bits ≡ [] → Fitting k) → Bits bits → packedProper (k .state) ≡ true
+    → keptAfter k bits ≡ totalled k (runFrom bits 0 0 0 (unpacked (k .state))) (length bits)
 unfolding keptAfter keptNext
-after-run k [] f h = sym (total-nothing k (f refl))
-after-run k (b ∷ bits) f h =
-    let t : Step = stepOf (k .state) b in
+after-run k [] f h p = sym (total-nothing k (f refl) p)
+after-run k (b ∷ bits) f h p =
+    let t : Step = stepOf (unpacked (k .state)) b in
     let r : Ran = runFrom bits 0 0 0 (t .next) in
     let n : 1 + length bits ≡ length (b ∷ bits) = omega arith in
-    after-run (keptNext k b) bits (λ _. next-fits k b) (h .1)
+    after-run (keptNext k b) bits (λ _. next-fits k b) (h .1) (next-proper k b (h .0) p)
     ∙ rw (
-      from-next b bits (k .state) (h .0),
+      next-unpacked k b (h .0) p,
+      from-next b bits (unpacked (k .state)) (h .0),
       total-more (k .fed) 1 (length bits),
       n,
       total-more (k .good) (t .good) (r .counts .good),
@@ -149,12 +173,14 @@ module _ (k : Kept) (bits : List ℕ) (i : ℕ) (h : Heard) (e : h ≡ heardOf k
   unfolding heardOf
   turn-fed =
       let n : length (drop i bits) ≡ length bits - i = length-drop i bits in
-      rw turn (change-some (k .state) (drop i bits) (omega arith), omega (arith, change-length (k .state) (drop i bits)))
+      rw turn (change-some (unpacked (k .state)) (drop i bits) (omega arith), omega (arith, change-length (unpacked (k .state)) (drop i bits)))
 
-  pub turn-proper : Bits bits → Proper (k .state) → Proper (h .kept .state)
+  pub turn-proper : Bits bits → packedProper (k .state) ≡ true → packedProper (h .kept .state) ≡ true
   unfolding heardOf
-  turn-proper b p = rw turn (after-proper k (toChange (k .state) (drop i bits)) (change-bits (k .state) (drop i bits) (bits-drop i bits b)) p)
+  turn-proper b p = rw turn (after-proper k _ (change-bits (unpacked (k .state)) (drop i bits) (bits-drop i bits b)) p)
 
   pub turn-kept : keptAfter (h .kept) (drop (i + h .fed) bits) ≡ keptAfter k (drop i bits)
   unfolding heardOf
-  turn-kept = rw turn (rw (← drop-drop (length (toChange (k .state) (drop i bits))) i bits) (after-change k (k .state) (drop i bits)))
+  turn-kept =
+      let s : State = unpacked (k .state) in
+      rw turn (rw (← drop-drop (length (toChange s (drop i bits))) i bits) (after-change k s (drop i bits)))

@@ -8,8 +8,8 @@ use lib.Dec.{eqb}
 use lib.ListN.{length}
 use Rattle.block.specs.Bits.{Bits}
 use Rattle.locking.specs.Locks.{locked}
-use Rattle.receiver.specs.States.{freshOf}
 use Rattle.receiver.specs.Steps.{Step, stepOf}
+use Rattle.receiver.specs.Packed.{packed, unpacked, freshPacked}
 use Rattle.receiver.specs.Changes.{sameLock, toChange}
 use Rattle.receive.specs.declared.totals.Heard.{Heard}
 use Rattle.receive.specs.declared.totals.Kept.{Kept}
@@ -22,18 +22,18 @@ total a b = (a + b) % 2 ^ 64
 
 -- before any bit
 abbrev pub freshKept : Kept
-freshKept = record { fed = 0; good = 0; bad = 0; passed = 0; state = freshOf }
+freshKept = record { fed = 0; good = 0; bad = 0; passed = 0; state = freshPacked }
 
--- after one bit more: what it counts comes to the totals
+-- after one bit more: it is a step of the fifty places, and what it counts comes to the totals
 unfoldable pub keptNext : Kept → ℕ → Kept
 keptNext k b =
-    let t : Step = stepOf (k .state) b in
+    let t : Step = stepOf (unpacked (k .state)) b in
     record {
       fed = total (k .fed) 1;
       good = total (k .good) (t .good);
       bad = total (k .bad) (t .bad);
       passed = total (k .passed) (t .passed);
-      state = t .next;
+      state = packed (t .next);
     }
 
 -- the bits one after the other, however many they are
@@ -55,7 +55,7 @@ saidOf k (b ∷ bs) =
 -- the bits up to that one are heard, or all
 unfoldable pub heardOf : Kept → List ℕ → Heard
 heardOf k bits =
-    let part : List ℕ = toChange (k .state) bits in
+    let part : List ℕ = toChange (unpacked (k .state)) bits in
     record { kept = keptAfter k part; fed = length part; said = saidOf k bits }
 
 -- from one to the other some bits were fed: no contract can say which are read

@@ -1,9 +1,10 @@
 // The receiver program: characters 0 and 1 from standard input are bits; it says when lock comes and goes, and what it counted.
 ghost use Prim.Native.Nat.{_≤_};
+ghost use mathlib.Core.Bool.{true};
 ghost use mathlib.Core.Path.{_≡_};
 ghost use lib.ListN.{length};
 ghost use Rattle.block.specs.Bits.{Bits};
-ghost use Rattle.receiver.proofs.StaysProper.{Proper};
+ghost use Rattle.receiver.specs.Packed.{packedProper};
 ghost use Rattle.receive.specs.Totals.{keptAfter, freshKept, FedOn};
 
 mod input;
@@ -26,7 +27,7 @@ struct Piece {
 fn fresh() -> Kept
     ensures { λ k. ⌜ k ≡ freshKept ⌝ }
 {
-    let state = receiver::fresh();
+    let state = receiver::fresh_packed();
     Kept {
         fed: 0,
         good: 0,
@@ -38,7 +39,7 @@ fn fresh() -> Kept
 
 // Feeds all the bits and tells where lock came or went. After a line that could not be written nothing more is told.
 fn feed_all(start: Kept, bits: &[u8], more: bool) -> Piece
-    requires { ⌜ Proper (start .state) × Bits (now bits) × (length (now bits) ≤ 65536) ⌝ }
+    requires { ⌜ (packedProper (start .state) ≡ true) × Bits (now bits) × (length (now bits) ≤ 65536) ⌝ }
     ensures { λ p. ⌜ p .kept ≡ keptAfter start (now (bits .entry)) ⌝ }
 {
     let mut kept = start;
@@ -76,7 +77,7 @@ fn unread(kept: Kept, got: isize) -> Piece
 
 // Reads one large piece of the input and feeds its bits.
 fn read_piece(start: Kept) -> Piece
-    requires { ⌜ Proper (start .state) ⌝ }
+    requires { ⌜ packedProper (start .state) ≡ true ⌝ }
     ensures { λ p. ⌜ FedOn start (p .kept) ⌝ }
 {
     let mut buffer = io::large_buffer();

@@ -4,17 +4,17 @@ ghost use mathlib.Core.Bool.{true};
 ghost use mathlib.Core.Path.{_≡_};
 ghost use lib.ListN.{length};
 ghost use Rattle.block.specs.Bits.{Bits};
-ghost use Rattle.receiver.specs.States.{properOf};
+ghost use Rattle.receiver.specs.Packed.{packedProper};
 ghost use Rattle.receive.specs.Totals.{total, saidAt, heardOf};
-use receiver::State;
+use receiver::PackedState;
 
-// The totals over the whole input so far, and the state after it.
+// The totals over the whole input so far, and the state after it, its waiting bits one number.
 pub struct Kept {
     pub fed: u64,
     pub good: u64,
     pub bad: u64,
     pub passed: u64,
-    pub state: State,
+    pub state: PackedState,
 }
 
 // Nothing, or that lock came or went with the bit of this number.
@@ -56,7 +56,7 @@ fn said_at(before: u8, after: u8, n: u64) -> Said
 
 // Feeds the bits up to the first with which lock comes or goes, or all.
 pub fn hear(kept: Kept, bits: &[u8]) -> Heard
-    requires { ⌜ (properOf (kept .state) ≡ true) × Bits (now bits) × (0 < length (now bits)) × (length (now bits) ≤ 65536) ⌝ }
+    requires { ⌜ (packedProper (kept .state) ≡ true) × Bits (now bits) × (0 < length (now bits)) × (length (now bits) ≤ 65536) ⌝ }
     ensures { λ h. ⌜ h ≡ heardOf kept (now (bits .entry)) ⌝ }
 {
     let before = kept.state;

@@ -2,12 +2,13 @@
 -- all of them. Each turn feeds at least one bit.
 -- Assumes nothing.
 use borrow.Author.Needs.{needs}
+use mathlib.Core.Bool.{true}
 use mathlib.Core.Path.{_≡_, refl, _∙_}
 use Prim.Native.Nat.{_-_, _≤_}
 use native.Mathlib.Omega.{arith}
 use lib.ListN.{length, drop, length-drop, drop-of-length-le}
 use Rattle.block.proofs.Strings.{bits-drop, rest-whole}
-use Rattle.receiver.proofs.StaysProper.{Proper}
+use Rattle.receiver.specs.Packed.{packedProper}
 use Rattle.receive.specs.Totals.{keptAfter}
 use Rattle.receive.proofs.Hearing.{turn-fed, turn-proper, turn-kept}
 use Rattle.receive.proofs.feed_all.Statement.{statement}
@@ -15,7 +16,7 @@ use Rattle.receive.proofs.feed_all.Tie as tie
 
 abbrev Inv-loop : tie.InvT-loop
 Inv-loop bits more kept₀ sound₀ i₀ kept sound i =
-    (i ≤ length bits) × Proper (kept .state) × (keptAfter kept (drop i bits) ≡ keptAfter kept₀ bits)
+    (i ≤ length bits) × (packedProper (kept .state) ≡ true) × (keptAfter kept (drop i bits) ≡ keptAfter kept₀ bits)
 
 abbrev μ-loop : tie.MeasureT-loop
 μ-loop bits more kept₀ sound₀ i₀ kept sound i = length bits - i
@@ -38,7 +39,7 @@ hear-requires c κs =
     let start = at .before .before in
     let bits = start .args .bits .now in
     rw (rest-whole bits (at .loop .i)) (
-      at .loop .inv .1 .proper,
+      at .loop .inv .1,
       bits-drop (at .loop .i) bits (start .pre .1),
       omega (arith, length-drop (at .loop .i) bits),
       omega (arith, length-drop (at .loop .i) bits),

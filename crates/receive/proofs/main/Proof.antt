@@ -1,14 +1,19 @@
 -- `main` is safe and ends. The measure is the number of turns that are left; from turn to turn the state stays proper.
 -- Assumes nothing.
 use borrow.Author.Needs.{needs}
+use mathlib.Core.Bool.{true}
+use mathlib.Core.Path.{_≡_}
 use native.Mathlib.Omega.{arith}
-use Rattle.receiver.proofs.StaysProper.{Proper, fresh-proper}
+use Rattle.receiver.specs.States.{freshOf}
+use Rattle.receiver.specs.Packed.{packedProper}
+use Rattle.receiver.proofs.StaysProper.{fresh-proper}
+use Rattle.receiver.proofs.Layouts.{packed-proper}
 use Rattle.receive.proofs.Hearing.{fed-proper}
 use Rattle.receive.proofs.main.Statement.{statement}
 use Rattle.receive.proofs.main.Tie as tie
 
 abbrev Inv-loop : tie.InvT-loop
-Inv-loop piece₀ turns₀ piece turns = Proper (piece .kept .state)
+Inv-loop piece₀ turns₀ piece turns = packedProper (piece .kept .state) ≡ true
 
 abbrev μ-loop : tie.MeasureT-loop
 μ-loop piece₀ turns₀ piece turns = turns
@@ -17,7 +22,7 @@ fresh-requires : tie.Need-fresh-requires Inv-loop μ-loop
 fresh-requires c κs = tt
 
 loop-holds : tie.Need-loop-holds Inv-loop μ-loop
-loop-holds c = rw (c .fresh .ensures) fresh-proper
+loop-holds c = rw (c .fresh .ensures) (packed-proper freshOf fresh-proper)
 
 read-piece-requires : tie.Need-read-piece-requires Inv-loop μ-loop
 read-piece-requires c κs = c .before .before .before .before .loop .inv

@@ -6,6 +6,7 @@ use mathlib.Core.Path.{ap}
 use Prim.Native.Nat.{ℕ, _<_}
 use native.Mathlib.Omega.{arith}
 use lib.ListN.{length}
+use Rattle.receiver.specs.Packed.{unpacked}
 use Rattle.receiver.specs.Changes.{toChange}
 use Rattle.receiver.proofs.Changes.{change-bits, bits-taken}
 use Rattle.receive.specs.Totals.{heardOf}
@@ -39,12 +40,12 @@ returns c =
     let start = ran .before .before .before in
     let k = start .args .kept in
     let bits = start .args .bits .now in
-    let part : List ℕ = toChange (k .state) bits in
-    let some : 0 < length part = change-some (k .state) bits (start .pre .2) in
-    let fed = change-bits (k .state) bits (start .pre .1) in
+    let part : List ℕ = toChange (unpacked (k .state)) bits in
+    let some : 0 < length part = change-some (unpacked (k .state)) bits (start .pre .2) in
+    let fed = change-bits (unpacked (k .state)) bits (start .pre .1) in
     rw (
-      said-last k bits,
-      after-run k part (λ e. absurd (omega (arith, ap length e))) fed,
+      said-last k bits (start .pre .1) (start .pre .0),
+      after-run k part (λ e. absurd (omega (arith, ap length e))) fed (start .pre .0),
       c .said-at .ensures,
       c .before .add3 .ensures,
       c .before .before .add2 .ensures,
