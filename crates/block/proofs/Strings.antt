@@ -249,14 +249,10 @@ unfolding remainderFrom
 rem-lt [] r hr h = hr
 rem-lt (b ∷ bs) r hr h = rem-lt bs (stepBit r b) (step-lt r b hr (h .0)) (h .1)
 
--- a turn of the circuit: where no x^13 comes up nothing is fed back, and so the remainder is the value
+-- where no x^13 comes up nothing is fed back, and so the remainder is the value
 pub step-small : (r b : ℕ) → r * 2 + b < 8192 → stepBit r b ≡ r * 2 + b
 unfolding stepBit
 step-small r b h = rw (lt-ltb (r * 2 + b) 8192 h)
-
-pub step-fed : (r b : ℕ) → 8192 ≤ r * 2 + b → stepBit r b ≡ bitXor (r * 2 + b) generator
-unfolding stepBit
-step-fed r b h = rw (le-ltb (r * 2 + b) 8192 h)
 
 pub rem-small : (bs : List ℕ) (r : ℕ) → valueFrom r bs < 8192 → remainderFrom r bs ≡ valueFrom r bs
 unfolding remainderFrom valueFrom

@@ -12,6 +12,7 @@ pub mod Earned
 pub mod Confirms
 pub mod Numbers
 pub mod Layouts
+pub mod First
 pub mod Running
 pub mod Turning
 pub mod Changes

@@ -16,6 +16,7 @@ use Rattle.block.specs.Bits.{bitsOf, valueFrom}
 use Rattle.block.specs.Division.{stepBit, remainderFrom, remainder}
 use Rattle.block.specs.Packed.{readBy}
 use Rattle.block.specs.Read.{readOf}
+use Rattle.block.specs.declared.Read.{Read}
 use Rattle.block.proofs.Reading.{number-reads}
 use Rattle.block.proofs.Stream.{at-the-end, in-front}
 use Rattle.block.proofs.Strings.{bits-bitsOf, rem-lt}
@@ -92,20 +93,19 @@ module _ (p : PackedState) (e : packedProper p ≡ true) where
 
 -- ---- a full window
 
-module _ (v left : ℕ) (h : v < 2 ^ 50) (d : left ≡ remainder (bitsOf 49 v)) (l : Lock) where
-  pub reads : readBy v left ≡ readOf (bitsOf 50 v)
-  reads = ap (readBy v) d ∙ number-reads v h
+pub reads : (v left : ℕ) → v < 2 ^ 50 → left ≡ remainder (bitsOf 49 v) → readBy v left ≡ readOf (bitsOf 50 v)
+reads v left h d = ap (readBy v) d ∙ number-reads v h
 
-  -- the test for passing over, and what it comes to
-  module _ (t : Bool) (e : t ≡ (eqb (l .mode) hunting && not (isGood (readBy v left)))) where
-    pub is-over : lockProper l ≡ true → t ≡ true → passedOver l ≡ judgedBy l (readOf (bitsOf 50 v))
-    is-over proper k =
-        let both = and-eq-true-iff (eqb (l .mode) hunting) _ .0 (sym e ∙ k) in
-        let m : l .mode ≡ hunting = eqb-true (l .mode) hunting (both .0) in
-        ap passedOver (hunting-fresh l proper m) ∙ sym (passes-over l (readOf (bitsOf 50 v)) m (rw reads at (not-true (isGood (readBy v left)) (both .1))))
+-- the test for passing over, and what it comes to
+module _ (l : Lock) (w : Read) (t : Bool) (e : t ≡ (eqb (l .mode) hunting && not (isGood w))) where
+  pub is-over : lockProper l ≡ true → t ≡ true → passedOver l ≡ judgedBy l w
+  is-over proper k =
+      let both = and-eq-true-iff (eqb (l .mode) hunting) _ .0 (sym e ∙ k) in
+      let m : l .mode ≡ hunting = eqb-true (l .mode) hunting (both .0) in
+      ap passedOver (hunting-fresh l proper m) ∙ sym (passes-over l w m (not-true (isGood w) (both .1)))
 
-    pub not-over : t ≡ false → judgedBy l (readOf (bitsOf 50 v)) .passed ≡ 0
-    not-over k = uses-up l (readOf (bitsOf 50 v)) (λ m. rw reads at (not-false (isGood (readBy v left)) (rw m at (sym e ∙ k))))
+  pub not-over : t ≡ false → judgedBy l w .passed ≡ 0
+  not-over k = uses-up l w (λ m. not-false (isGood w) (rw m at (sym e ∙ k)))
 
 -- ---- one bit
 

@@ -150,7 +150,7 @@ fn feed_all(state: PackedState, bits: &[u8], stop: bool) -> Stretch
         waiting += 1;
         if waiting == 50 {
             let left = behind_first(window, register);
-            if is_passed_over(lock.mode, window, left) {
+            if is_passed_over(lock.mode, window, register) {
                 passed += 1;
                 window = window % 0x2_0000_0000_0000;
                 register = left;

@@ -5,7 +5,7 @@ ghost use Prim.Native.Nat.{_<_, _≤_, _-_, _^_};
 ghost use lib.Dec.{eqb};
 ghost use Rattle.block.specs.Bits.{bitsOf};
 ghost use Rattle.block.specs.Division.{remainder};
-ghost use Rattle.block.specs.Packed.{readBy};
+ghost use Rattle.block.specs.Read.{readOf};
 ghost use Rattle.locking.specs.Locks.{hunting};
 ghost use Rattle.locking.specs.Modes.{isGood};
 
@@ -24,15 +24,16 @@ pub fn behind_first(window: u64, register: u32) -> u32
     }
 }
 
-// Whether a full window passes its oldest bit over: when hunting, unless it is a good block. What is left is looked at first,
-// since noise leaves something nearly always and starts with 1 half the time.
-pub fn is_passed_over(mode: u8, window: u64, left: u32) -> bool
-    ensures { λ t. ⌜ t ≡ eqb mode hunting && not (isGood (readBy window left)) ⌝ }
+// Whether a full window passes its oldest bit over: when hunting, unless it is a good block, which leaves what its prefix leaves.
+// The register is looked at first, since noise starts with 1 half the time.
+pub fn is_passed_over(mode: u8, window: u64, register: u32) -> bool
+    requires { ⌜ (window < 2 ^ 50) × (register ≡ remainder (bitsOf 50 window)) ⌝ }
+    ensures { λ t. ⌜ t ≡ eqb mode hunting && not (isGood (readOf (bitsOf 50 window))) ⌝ }
 {
     if mode != 0 {
         return false;
     }
-    if left != 0 {
+    if register != FIRST {
         return true;
     }
     window < 0x2_0000_0000_0000

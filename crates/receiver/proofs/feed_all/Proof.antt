@@ -140,7 +140,7 @@ behind-first-requires c κs =
     )
 
 is-passed-over-requires : tie.Need-is-passed-over-requires Inv-loop μ-loop
-is-passed-over-requires c κs = search needs
+is-passed-over-requires c κs = behind-first-requires (c .before) κs
 
 add-passed : tie.Need-add-passed Inv-loop μ-loop
 add-passed c =
@@ -205,8 +205,8 @@ returns-2 c =
     let h = has-room w n bit b (inv .1) (inv .2) in
     let d = over .before .behind-first .ensures in
     let j = judge .judge .result in
-    let e = judge .judge .ensures ∙ ap (judgedBy l) (judge .before .read-by .ensures ∙ reads (n * 2 + bit) _ h d l) in
-    let none = ap (λ (j : Judged). j .passed) e ∙ not-over (n * 2 + bit) _ h d l _ (over .is-passed-over .ensures) (judge .before .before .if3 .left) in
+    let e = judge .judge .ensures ∙ ap (judgedBy l) (judge .before .read-by .ensures ∙ reads (n * 2 + bit) _ h d) in
+    let none = ap (λ (j : Judged). j .passed) e ∙ not-over l _ _ (over .is-passed-over .ensures) (judge .before .before .if3 .left) in
     let whole = rw (next bits (at .loop .i) (full .before .before .before .before .loop-test .taken)) at (inv .8) in
     let change = stopped stop (sameLock (l .mode) (j .lock .mode)) (end .ends .result) (end .ends .ensures) (c .before .before .if4 .taken) in
     rw (c .counted2 .ensures, c .before .packed-of .ensures, nothing-left (j .lock))
@@ -248,15 +248,15 @@ loop-again c =
       omega (arith, o .9, inv .6),
       omega (arith, o .10, inv .7),
       goes-same stop _ _ (o .4) (o .5) (o .6) (o .8) (o .9) (o .10)
-          ∙ (sym (goes-over stop (at .loop .i) _ _ _ bit _ b l w n (o .0 .taken) (passedOver l) (is-over v _ h d l _ (o .2 .ensures) (inv .4) (o .3 .taken)) refl) ∙ whole),
+          ∙ (sym (goes-over stop (at .loop .i) _ _ _ bit _ b l w n (o .0 .taken) (passedOver l) (is-over l _ _ (o .2 .ensures) (inv .4) (o .3 .taken)) refl) ∙ whole),
     ))
     (⊎-elim
     (λ u.
     let d = u .1 .ensures in
     let j = u .5 .result in
-    let e = u .5 .ensures ∙ ap (judgedBy l) (u .4 .ensures ∙ reads v _ h d l) in
+    let e = u .5 .ensures ∙ ap (judgedBy l) (u .4 .ensures ∙ reads v _ h d) in
     let small = judged-small [] _ _ _ (u .5 .ensures) in
-    let none = ap (λ (j : Judged). j .passed) e ∙ not-over v _ h d l _ (u .2 .ensures) (u .3 .left) in
+    let none = ap (λ (j : Judged). j .passed) e ∙ not-over l _ _ (u .2 .ensures) (u .3 .left) in
     let same = went-on stop (sameLock (l .mode) (j .lock .mode)) (u .9 .result) (u .9 .ensures) (u .10 .left) in (
       here,
       omega (arith, u .12),

@@ -24,37 +24,33 @@ loop-holds c = (omega arith, c .pre .0, refl)
 sub-left : tie.Need-sub-left Inv-loop μ-loop
 sub-left c = omega arith
 
-cast-turn : tie.Need-cast-turn Inv-loop μ-loop
-cast-turn c = omega arith
+mul-feed-back : tie.Need-mul-feed-back Inv-loop μ-loop
+mul-feed-back c = omega arith
 
-shr-turn : tie.Need-shr-turn Inv-loop μ-loop
-shr-turn c = omega arith
+cast-feed-back : tie.Need-cast-feed-back Inv-loop μ-loop
+cast-feed-back c = omega arith
 
-cast-turn-2 : tie.Need-cast-turn-2 Inv-loop μ-loop
-cast-turn-2 c = omega arith
+shr-feed-back : tie.Need-shr-feed-back Inv-loop μ-loop
+shr-feed-back c = omega arith
 
-turn-requires : tie.Need-turn-requires Inv-loop μ-loop
-turn-requires c κs = search needs
+add-feed-back : tie.Need-add-feed-back Inv-loop μ-loop
+add-feed-back c = omega arith
 
-stepped : (r b : ℕ) (t : ℕ) → t ≡ stepBit r b → r < 8192 → b < 2 → t < 8192
-stepped r b t e hr hb = rw e (step-lt r b hr hb)
-
-cast-register : tie.Need-cast-register Inv-loop μ-loop
-cast-register c =
-    let at = c .before .before in
-    omega (arith, stepped (at .loop .register) (at .before .args .number / 2 ^ (at .loop .left - 1) % 2) _ (c .turn .ensures) (at .loop .inv .1) (omega arith))
+feed-back-requires : tie.Need-feed-back-requires Inv-loop μ-loop
+feed-back-requires c κs = search needs
 
 loop-less : tie.Need-loop-less Inv-loop μ-loop
 loop-less c = omega arith
 
 loop-again : tie.Need-loop-again Inv-loop μ-loop
+unfolding stepBit
 loop-again c =
     let at = c .before .before in
     let number = at .before .args .number in
     let bit = number / 2 ^ (at .loop .left - 1) % 2 in (
       omega arith,
-      stepped (at .loop .register) bit _ (c .turn .ensures) (at .loop .inv .1) (omega arith),
-      rw (c .turn .ensures) (sym (rem-first (at .loop .left) number (at .loop .register) (omega arith)) ∙ at .loop .inv .2),
+      rw (c .feed-back .ensures) (step-lt (at .loop .register) bit (at .loop .inv .1) (omega arith)),
+      rw (c .feed-back .ensures) (sym (rem-first (at .loop .left) number (at .loop .register) (omega arith)) ∙ at .loop .inv .2),
     )
 
 ends : (r n k : ℕ) → k ≤ 0 → remainderFrom r (bitsOf k n) ≡ r
@@ -75,11 +71,11 @@ let-in-spec =
     μ-loop
     loop-holds
     sub-left
-    cast-turn
-    shr-turn
-    cast-turn-2
-    turn-requires
-    cast-register
+    mul-feed-back
+    cast-feed-back
+    shr-feed-back
+    add-feed-back
+    feed-back-requires
     loop-less
     loop-again
     returns)

@@ -2,18 +2,22 @@
 -- Assumes nothing.
 use borrow.Author.Needs.{needs}
 use mathlib.Core.Path.{sym, _∙_}
-use Rattle.block.proofs.Strings.{rem-filled}
+use native.Mathlib.Omega.{arith}
+use Rattle.block.specs.Bits.{bitsOf}
+use Rattle.block.proofs.Strings.{bits-bitsOf, rem-filled, rem-lt}
 use Rattle.block.proofs.circuit.remainder.Statement.{statement}
 use Rattle.block.proofs.circuit.remainder.Tie as tie
 
-cast-let-in : tie.Need-cast-let-in
-cast-let-in c = search needs
-
 let-in-requires : tie.Need-let-in-requires
 let-in-requires c κs = search needs
+
+cast-result : tie.Need-cast-result
+cast-result c =
+    let number = c .before .args .number in
+    omega (arith, c .let-in .ensures ∙ sym (rem-filled 36 number), rem-lt (bitsOf 49 number) 0 (omega arith) (bits-bitsOf 49 number))
 
 returns : tie.Need-returns
 returns c = c .let-in .ensures ∙ sym (rem-filled 36 (c .before .args .number))
 
 pub remainder-spec : {M : Type 1} → statement M
-remainder-spec = tie.close (tie.spec cast-let-in let-in-requires returns)
+remainder-spec = tie.close (tie.spec let-in-requires cast-result returns)

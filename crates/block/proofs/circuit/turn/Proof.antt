@@ -1,23 +1,22 @@
--- `turn` meets its contract: an x^13 comes up exactly where a 1 stands in the top place.
+-- `turn` meets its contract: it is the definition of a step.
 -- Assumes nothing.
 use borrow.Author.Needs.{needs}
-use mathlib.Core.Path.{sym}
-use native.Mathlib.Omega.{arith}
-use Rattle.block.proofs.Strings.{step-small, step-fed}
+use Rattle.block.specs.Division.{stepBit}
 use Rattle.block.proofs.circuit.turn.Statement.{statement}
 use Rattle.block.proofs.circuit.turn.Tie as tie
 
-mul-moved : tie.Need-mul-moved
-mul-moved c = search needs
+mul-feed-back : tie.Need-mul-feed-back
+mul-feed-back c = search needs
 
-add-moved : tie.Need-add-moved
-add-moved c = search needs
+add-feed-back : tie.Need-add-feed-back
+add-feed-back c = search needs
+
+feed-back-requires : tie.Need-feed-back-requires
+feed-back-requires c κs = search needs
 
 returns : tie.Need-returns
-returns c = let a = c .before .args in sym (step-small (a .register) (a .bit) (omega arith))
-
-returns-2 : tie.Need-returns-2
-returns-2 c = let a = c .before .args in sym (step-fed (a .register) (a .bit) (omega arith))
+unfolding stepBit
+returns c = c .feed-back .ensures
 
 pub turn-spec : {M : Type 1} → statement M
-turn-spec = tie.close (tie.spec mul-moved add-moved returns returns-2)
+turn-spec = tie.close (tie.spec mul-feed-back add-feed-back feed-back-requires returns)

@@ -1,46 +1,50 @@
--- `is_passed_over` meets its contract: a window is a good block where it starts with 1 and leaves nothing.
+-- `is_passed_over` meets its contract: a window is a good block where it starts with 1 and leaves what that 1 leaves.
 -- Assumes nothing.
-use borrow.Author.Needs.{needs}
-use borrow.Author.Tests.{le-leb, lt-leb, eq-eqb, ne-eqb, ltb-true, ltb-false}
-use mathlib.Core.Bool.{Bool, true, false, _&&_, not}
+use borrow.Author.Tests.{eq-eqb, ne-eqb, ltb-true, ltb-false}
+use mathlib.Core.Bool.{Bool, true, false, not}
 use mathlib.Core.Path.{_≡_, refl}
-use Prim.Native.Nat.{ℕ, _^_}
+use Prim.Native.Nat.{ℕ, _^_, _<_}
 use native.Mathlib.Omega.{arith}
-use lib.Dec.{eqb, leb, ltb}
-use Rattle.block.specs.Packed.{readBy}
+use lib.Dec.{ltb}
+use Rattle.block.specs.Bits.{bitsOf}
+use Rattle.block.specs.Division.{remainder}
+use Rattle.block.specs.Read.{readOf}
 use Rattle.locking.specs.Modes.{isGood}
+use Rattle.receiver.proofs.First.{first, low, other, same}
 use Rattle.receiver.proofs.windows.is_passed_over.Statement.{statement}
 use Rattle.receiver.proofs.windows.is_passed_over.Tie as tie
 
-good-by : (n left : ℕ) → isGood (readBy n left) ≡ (eqb left 0 && leb (2 ^ 49) n)
-unfolding readBy
-good-by n left = by (leb (2 ^ 49) n) (eqb left 0) refl refl
-  where
-    by : (high none : Bool) → leb (2 ^ 49) n ≡ high → eqb left 0 ≡ none → isGood (readBy n left) ≡ (none && high)
-    by false true k z = rw k
-    by false false k z = rw k
-    by true false k z = rw (k, z)
-    by true true k z = rw (k, z)
+module _ (n r : ℕ) (h : n < 2 ^ 50) (e : r ≡ remainder (bitsOf 50 n)) where
+  -- the register alone tells a bad window
+  noise : (r ≡ first → ⊥) → isGood (readOf (bitsOf 50 n)) ≡ false
+  noise d = by (ltb n (2 ^ 49)) refl
+    where
+      by : (t : Bool) → ltb n (2 ^ 49) ≡ t → isGood (readOf (bitsOf 50 n)) ≡ false
+      by true k = low n r h e (ltb-true n (2 ^ 49) k)
+      by false k = other n r h e d (ltb-false n (2 ^ 49) k)
 
-low : (n k : ℕ) → ltb n k ≡ not (leb k n)
-low n k = by (ltb n k) refl
-  where
-    by : (t : Bool) → ltb n k ≡ t → t ≡ not (leb k n)
-    by true e = rw (lt-leb k n (ltb-true n k e))
-    by false e = rw (le-leb k n (ltb-false n k e))
+  -- and where it does not, the first bit does
+  start : r ≡ first → ltb n (2 ^ 49) ≡ not (isGood (readOf (bitsOf 50 n)))
+  start d = by (ltb n (2 ^ 49)) refl
+    where
+      by : (t : Bool) → ltb n (2 ^ 49) ≡ t → t ≡ not (isGood (readOf (bitsOf 50 n)))
+      by true k = rw (low n r h e (ltb-true n (2 ^ 49) k))
+      by false k = rw (same n r h e d (ltb-false n (2 ^ 49) k))
 
 returns : tie.Need-returns
 returns c = rw (ne-eqb (c .before .args .mode) 0 (c .if1 .taken))
 
 returns-2 : tie.Need-returns-2
 returns-2 c =
-    let a = c .before .before .args in
-    rw (eq-eqb (a .mode) 0 (omega arith), good-by (a .window) (a .left), ne-eqb (a .left) 0 (c .if2 .taken))
+    let begin = c .before .before in
+    let a = begin .args in
+    rw (eq-eqb (a .mode) 0 (omega arith), noise (a .window) (a .register) (begin .pre .0) (begin .pre .1) (c .if2 .taken))
 
 returns-3 : tie.Need-returns-3
 returns-3 c =
-    let a = c .before .before .args in
-    rw (eq-eqb (a .mode) 0 (omega arith), good-by (a .window) (a .left), eq-eqb (a .left) 0 (omega arith)) (low (a .window) (2 ^ 49))
+    let begin = c .before .before in
+    let a = begin .args in
+    rw (eq-eqb (a .mode) 0 (omega arith)) (start (a .window) (a .register) (begin .pre .0) (begin .pre .1) (omega arith))
 
 pub is-passed-over-spec : {M : Type 1} → statement M
 is-passed-over-spec = tie.close (tie.spec returns returns-2 returns-3)

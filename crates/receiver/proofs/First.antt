@@ -1,0 +1,46 @@
+-- What the first bit of a full window puts into the register, and so what the register says of the window.
+-- Assumes nothing.
+use mathlib.Core.Bool.{true, false}
+use mathlib.Core.List.{_∷_}
+use mathlib.Core.Path.{_≡_, refl, sym, ap, _∙_}
+use Prim.Native.Nat.{ℕ, _^_, _<_, _≤_}
+use native.Mathlib.Omega.{arith}
+use borrow.Author.Tests.{le-leb, lt-leb, eq-eqb, ne-eqb}
+use lib.Bits.{bitXor, xor-self}
+use Rattle.block.specs.Bits.{bitsOf, zeros}
+use Rattle.block.specs.Division.{remainderFrom, remainder}
+use Rattle.block.specs.Packed.{readBy}
+use Rattle.block.specs.Read.{readOf}
+use Rattle.block.proofs.Reading.{number-reads}
+use Rattle.block.proofs.Stream.{in-front, off-the-front}
+use Rattle.block.proofs.Xor.{xor-eq}
+use Rattle.locking.specs.Modes.{isGood}
+
+-- what x^49 leaves
+abbrev pub first : ℕ
+first = 0x1283
+
+first-is : first ≡ remainder (1 ∷ zeros 49)
+unfolding remainderFrom
+first-is = refl
+
+module _ (n r : ℕ) (h : n < 2 ^ 50) (e : r ≡ remainder (bitsOf 50 n)) where
+  pub behind-0 : n < 2 ^ 49 → r ≡ remainder (bitsOf 49 n)
+  behind-0 k = e ∙ in-front 1 49 n k
+
+  pub behind-1 : 2 ^ 49 ≤ n → bitXor r first ≡ remainder (bitsOf 49 n)
+  behind-1 k = rw (e, first-is) (off-the-front 49 n (omega arith))
+
+  -- a good block starts with 1, and the register holds what that leaves
+  pub low : n < 2 ^ 49 → isGood (readOf (bitsOf 50 n)) ≡ false
+  unfolding readBy
+  low k = rw (← number-reads n h, lt-leb (2 ^ 49) n k)
+
+  pub other : (r ≡ first → ⊥) → 2 ^ 49 ≤ n → isGood (readOf (bitsOf 50 n)) ≡ false
+  unfolding readBy
+  other d k = rw (← number-reads n h, le-leb (2 ^ 49) n k, ne-eqb (remainder (bitsOf 49 n)) 0 (λ z. d (xor-eq r first (behind-1 k ∙ z))))
+
+  pub same : r ≡ first → 2 ^ 49 ≤ n → isGood (readOf (bitsOf 50 n)) ≡ true
+  unfolding readBy
+  same d k =
+      rw (← number-reads n h, le-leb (2 ^ 49) n k, eq-eqb (remainder (bitsOf 49 n)) 0 (sym (behind-1 k) ∙ ap (λ (q : ℕ). bitXor q first) d ∙ xor-self first))
