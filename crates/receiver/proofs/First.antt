@@ -1,11 +1,12 @@
 -- What the first bit of a full window puts into the register, and so what the register says of the window.
 -- Assumes nothing.
-use mathlib.Core.Bool.{true, false}
+use mathlib.Core.Bool.{Bool, true, false}
 use mathlib.Core.List.{_∷_}
 use mathlib.Core.Path.{_≡_, refl, sym, ap, _∙_}
-use Prim.Native.Nat.{ℕ, _^_, _<_, _≤_}
+use Prim.Native.Nat.{ℕ, _+_, _*_, _/_, _^_, _<_, _≤_}
 use native.Mathlib.Omega.{arith}
-use borrow.Author.Tests.{le-leb, lt-leb, eq-eqb, ne-eqb}
+use borrow.Author.Tests.{le-leb, lt-leb, eq-eqb, ne-eqb, ltb-true, ltb-false}
+use lib.Dec.{ltb}
 use lib.Bits.{bitXor, xor-self}
 use Rattle.block.specs.Bits.{bitsOf, zeros}
 use Rattle.block.specs.Division.{remainderFrom, remainder}
@@ -32,15 +33,27 @@ module _ (n r : ℕ) (h : n < 2 ^ 50) (e : r ≡ remainder (bitsOf 50 n)) where
   behind-1 k = rw (e, first-is) (off-the-front 49 n (omega arith))
 
   -- a good block starts with 1, and the register holds what that leaves
-  pub low : n < 2 ^ 49 → isGood (readOf (bitsOf 50 n)) ≡ false
+  low : n < 2 ^ 49 → isGood (readOf (bitsOf 50 n)) ≡ false
   unfolding readBy
   low k = rw (← number-reads n h, lt-leb (2 ^ 49) n k)
 
-  pub other : (r ≡ first → ⊥) → 2 ^ 49 ≤ n → isGood (readOf (bitsOf 50 n)) ≡ false
+  other : (r ≡ first → ⊥) → 2 ^ 49 ≤ n → isGood (readOf (bitsOf 50 n)) ≡ false
   unfolding readBy
   other d k = rw (← number-reads n h, le-leb (2 ^ 49) n k, ne-eqb (remainder (bitsOf 49 n)) 0 (λ z. d (xor-eq r first (behind-1 k ∙ z))))
 
-  pub same : r ≡ first → 2 ^ 49 ≤ n → isGood (readOf (bitsOf 50 n)) ≡ true
+  same : r ≡ first → 2 ^ 49 ≤ n → isGood (readOf (bitsOf 50 n)) ≡ true
   unfolding readBy
   same d k =
       rw (← number-reads n h, le-leb (2 ^ 49) n k, eq-eqb (remainder (bitsOf 49 n)) 0 (sym (behind-1 k) ∙ ap (λ (q : ℕ). bitXor q first) d ∙ xor-self first))
+
+  -- so the first bit above the register tells it
+  module _ (below : r < 8192) where
+    pub is-good : n / 2 ^ 49 * 8192 + r ≡ 8192 + first → isGood (readOf (bitsOf 50 n)) ≡ true
+    is-good d = same (omega arith) (omega arith)
+
+    pub is-not : (n / 2 ^ 49 * 8192 + r ≡ 8192 + first → ⊥) → isGood (readOf (bitsOf 50 n)) ≡ false
+    is-not d = by (ltb n (2 ^ 49)) refl
+      where
+        by : (t : Bool) → ltb n (2 ^ 49) ≡ t → isGood (readOf (bitsOf 50 n)) ≡ false
+        by true k = low (ltb-true n (2 ^ 49) k)
+        by false k = let g : 2 ^ 49 ≤ n = ltb-false n (2 ^ 49) k in other (λ z. d (omega arith)) g

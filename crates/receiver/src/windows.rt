@@ -24,8 +24,8 @@ pub fn behind_first(window: u64, register: u32) -> u32
     }
 }
 
-// Whether a full window passes its oldest bit over: when hunting, unless it is a good block, which leaves what its prefix leaves.
-// The register is looked at first, since noise starts with 1 half the time.
+// Whether a full window passes its oldest bit over: when hunting, unless it is a good block, which starts with 1 and leaves what
+// that 1 leaves. Both are looked at in one test, which noise nearly always fails; its first bit alone is 1 half the time.
 pub fn is_passed_over(mode: u8, window: u64, register: u32) -> bool
     requires { ⌜ (window < 2 ^ 50) × (register ≡ remainder (bitsOf 50 window)) ⌝ }
     ensures { λ t. ⌜ t ≡ eqb mode hunting && not (isGood (readOf (bitsOf 50 window))) ⌝ }
@@ -33,10 +33,11 @@ pub fn is_passed_over(mode: u8, window: u64, register: u32) -> bool
     if mode != 0 {
         return false;
     }
-    if register != FIRST {
-        return true;
+    let start = window / 0x2_0000_0000_0000;
+    if start * 0x2000 + (register as u64) == 0x2000 + 0x1283 {
+        return false;
     }
-    window < 0x2_0000_0000_0000
+    true
 }
 
 // What the last of so many waiting bits weighs in the packed state; where none waits, 2^50.
