@@ -7,7 +7,7 @@ use Prim.Native.Nat.{ℕ, _^_, _<_}
 use borrow.Author.Tests.{lt-ltb, ltb-true}
 use lib.Dec.{ltb}
 use lib.ListN.{length}
-use Rattle.block.specs.Bits.{Bits, value}
+use Rattle.block.specs.Bits.{Bits, value, valueFrom}
 use Rattle.block.specs.Packed.{packOf}
 use Rattle.block.specs.declared.Packed.the-variants.{Refused}
 use Rattle.refusal.specs.declared.Refusal.{Refusal}
@@ -18,10 +18,10 @@ use Rattle.receiver.specs.declared.PackedRan.{PackedRan}
 use Rattle.receiver.specs.declared.PackedState.{PackedState}
 use Rattle.receiver.specs.declared.Ran.{Ran}
 use Rattle.receiver.specs.declared.State.{State}
-use Rattle.receiver.specs.States.{lockIn, properOf}
+use Rattle.receiver.specs.States.{freshOf, lockIn, properOf}
 use Rattle.receiver.specs.declared.Counts.{Counts}
 use Rattle.receiver.specs.Runs.{runOf, fedOf}
-use Rattle.receiver.specs.Packed.{packedOf, packed, unpacked, packedProper, packedRan, runPacked, fedPacked}
+use Rattle.receiver.specs.Packed.{packedOf, packed, unpacked, freshPacked, packedProper, packedRan, runPacked, fedPacked}
 use Rattle.receiver.proofs.StaysProper.{Proper, bits-and-lock, from-proper}
 use Rattle.receiver.proofs.Numbers.{proper-bits}
 use Rattle.receiver.proofs.Together.{fed-run}
@@ -60,6 +60,10 @@ run-fifty s bs f =
     cond-elim P (ltb 65536 (length bs)) (λ _. f)
     (λ _.
     cond-elim P (properOf s) (λ e. proper-fifty _ (from-proper bs 0 0 0 s (record { places = f .places; proper = e }))) (λ _. f))
+
+pub fresh-packed : freshPacked ≡ packed freshOf
+unfolding freshOf valueFrom
+fresh-packed = refl
 
 -- ---- from the number and back
 

@@ -10,12 +10,12 @@ use Rattle.refusal.specs.Numbers.{numberOf}
 use Rattle.refusal.specs.declared.Refusal.the-variants.{RunTooLong, Improper}
 use Rattle.timekeeping.specs.Times.{timeOf}
 use Rattle.locking.specs.declared.Lock.{Lock}
-use Rattle.locking.specs.Locks.{lockOf}
+use Rattle.locking.specs.Locks.{lockOf, freshLock}
 use Rattle.receiver.specs.declared.PackedRan.{PackedRan}
 use Rattle.receiver.specs.declared.PackedState.{PackedState}
 use Rattle.receiver.specs.declared.Ran.{Ran}
 use Rattle.receiver.specs.declared.State.{State}
-use Rattle.receiver.specs.States.{stateOf, lockIn, freshOf, properOf}
+use Rattle.receiver.specs.States.{stateOf, lockIn, properOf}
 use Rattle.receiver.specs.Runs.{countsOf, runOf, fedOf}
 
 -- a packed state: its lock, how many bits wait, and the number that holds them
@@ -42,7 +42,7 @@ unpacked p = stateOf (lockOf (p .mode) (p .good) (p .bad) (timeOf (p .time) (p .
 
 -- hunting, nothing waiting, no time
 abbrev pub freshPacked : PackedState
-freshPacked = packed freshOf
+freshPacked = packedOf freshLock 0 0
 
 -- no bit stands above place 49, and the state in fifty places is proper: so the places not in use are 0
 unfoldable pub packedProper : PackedState → Bool

@@ -1,8 +1,6 @@
--- `fresh_packed` meets its contract: fifty places not in use are the number 0.
+-- `fresh_packed` meets its contract: the packed state of a fresh lock.
 -- Assumes nothing.
 use borrow.Author.Needs.{needs}
-use Rattle.block.specs.Bits.{valueFrom}
-use Rattle.receiver.specs.States.{freshOf}
 use Rattle.receiver.proofs.fresh_packed.Statement.{statement}
 use Rattle.receiver.proofs.fresh_packed.Tie as tie
 
@@ -13,7 +11,6 @@ packed-of-requires : tie.Need-packed-of-requires
 packed-of-requires c κs = search needs
 
 returns : tie.Need-returns
-unfolding freshOf valueFrom
 returns c = rw (c .packed-of .ensures, c .before .fresh-lock .ensures)
 
 pub fresh-packed-spec : {M : Type 1} → statement M
