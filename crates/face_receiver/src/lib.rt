@@ -57,7 +57,7 @@ pub extern "C" fn lw_feed_packed(state: &mut PackedState, bit: u8) -> Counts
 pub extern "C" fn lw_run_packed(state: &mut PackedState, bits: &[u8]) -> Counts
     ensures { λ r. ⌜ (r ≡ runPacked (now (state .entry)) (now (bits .entry)) .counts) × (now (state .exit) ≡ runPacked (now (state .entry)) (now (bits .entry)) .state) ⌝ }
 {
-    let ran = receiver::run_packed(*state, bits);
-    *state = ran.state;
-    ran.counts
+    let after = receiver::run_packed(*state, bits);
+    *state = after.state;
+    after.counts
 }
