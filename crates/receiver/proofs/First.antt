@@ -14,8 +14,11 @@ use Rattle.block.specs.Packed.{readBy}
 use Rattle.block.specs.Read.{readOf}
 use Rattle.block.proofs.Reading.{number-reads}
 use Rattle.block.proofs.Stream.{in-front, off-the-front}
+use Rattle.block.proofs.Strings.{bits-bitsOf, rem-lt}
 use Rattle.block.proofs.Xor.{xor-eq}
 use Rattle.locking.specs.Modes.{isGood}
+use Rattle.receiver.specs.declared.windows.Window.{Window}
+use Rattle.receiver.specs.Windows.{Turned}
 
 -- what x^49 leaves
 abbrev pub first : ℕ
@@ -24,6 +27,10 @@ first = 0x1283
 first-is : first ≡ remainder (1 ∷ zeros 49)
 unfolding remainderFrom
 first-is = refl
+
+-- a full window is a number of fifty bits
+pub fifty : (w : Window) → w .waiting ≡ 50 → Turned w → (w .bits < 2 ^ 50) × (w .register ≡ remainder (bitsOf 50 (w .bits)))
+fifty w e t = rw e at t
 
 module _ (n r : ℕ) (h : n < 2 ^ 50) (e : r ≡ remainder (bitsOf 50 n)) where
   pub behind-0 : n < 2 ^ 49 → r ≡ remainder (bitsOf 49 n)
@@ -47,13 +54,15 @@ module _ (n r : ℕ) (h : n < 2 ^ 50) (e : r ≡ remainder (bitsOf 50 n)) where
       rw (← number-reads n h, le-leb (2 ^ 49) n k, eq-eqb (remainder (bitsOf 49 n)) 0 (sym (behind-1 k) ∙ ap (λ (q : ℕ). bitXor q first) d ∙ xor-self first))
 
   -- so the first bit above the register tells it
-  module _ (below : r < 8192) where
-    pub is-good : n / 2 ^ 49 * 8192 + r ≡ 8192 + first → isGood (readOf (bitsOf 50 n)) ≡ true
-    is-good d = same (omega arith) (omega arith)
+  thirteen : r < 8192
+  thirteen = rw e (rem-lt (bitsOf 50 n) 0 (omega arith) (bits-bitsOf 50 n))
 
-    pub is-not : (n / 2 ^ 49 * 8192 + r ≡ 8192 + first → ⊥) → isGood (readOf (bitsOf 50 n)) ≡ false
-    is-not d = by (ltb n (2 ^ 49)) refl
-      where
-        by : (t : Bool) → ltb n (2 ^ 49) ≡ t → isGood (readOf (bitsOf 50 n)) ≡ false
-        by true k = low (ltb-true n (2 ^ 49) k)
-        by false k = let g : 2 ^ 49 ≤ n = ltb-false n (2 ^ 49) k in other (λ z. d (omega arith)) g
+  pub is-good : n / 2 ^ 49 * 8192 + r ≡ 8192 + first → isGood (readOf (bitsOf 50 n)) ≡ true
+  is-good d = let t = thirteen in same (omega arith) (omega arith)
+
+  pub is-not : (n / 2 ^ 49 * 8192 + r ≡ 8192 + first → ⊥) → isGood (readOf (bitsOf 50 n)) ≡ false
+  is-not d = by (ltb n (2 ^ 49)) refl
+    where
+      by : (t : Bool) → ltb n (2 ^ 49) ≡ t → isGood (readOf (bitsOf 50 n)) ≡ false
+      by true k = low (ltb-true n (2 ^ 49) k)
+      by false k = let g : 2 ^ 49 ≤ n = ltb-false n (2 ^ 49) k in other (λ z. d (omega arith)) g

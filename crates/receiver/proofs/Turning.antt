@@ -12,7 +12,7 @@ use borrow.Author.Tests.{eqb-true, not-true, not-false}
 use lib.Dec.{eqb}
 use lib.ListN.{set}
 use lib.Pow.{pow-mono}
-use Rattle.block.specs.Bits.{bitsOf, valueFrom}
+use Rattle.block.specs.Bits.{bitsOf}
 use Rattle.block.specs.Division.{stepBit, remainderFrom, remainder}
 use Rattle.block.specs.Packed.{readBy}
 use Rattle.block.specs.Read.{readOf}
@@ -27,7 +27,7 @@ use Rattle.locking.specs.Modes.{isGood, passedOver, judgedBy}
 use Rattle.locking.proofs.Choices.{passes-over, uses-up}
 use Rattle.locking.proofs.NoTime.{hunting-fresh}
 use Rattle.receiver.specs.declared.PackedState.{PackedState}
-use Rattle.receiver.specs.States.{stateOf, lockIn, nothingWaits}
+use Rattle.receiver.specs.States.{stateOf, lockIn}
 use Rattle.receiver.specs.Runs.{ended}
 use Rattle.receiver.specs.Packed.{packedOf, packed, unpacked, packedProper, packedRan}
 use Rattle.receiver.specs.Changes.{sameLock, withFed}
@@ -63,10 +63,6 @@ nothing-in = refl
 pub put-back : (l : Lock) (w n : ℕ) → n < 2 ^ w → packedOf l w (n * 2 ^ (50 - w)) ≡ packed (stateOf l w (placesOf w n))
 put-back l w n h = rw (raised-value w n h)
 
-pub nothing-left : (l : Lock) → packedOf l 0 0 ≡ packed (nothingWaits l)
-unfolding valueFrom
-nothing-left l = refl
-
 module _ (p : PackedState) (e : packedProper p ≡ true) where
   pub few : p .waiting < 50
   few = room (unpacked p) (proper-unpacked p e .proper)
@@ -78,7 +74,7 @@ module _ (p : PackedState) (e : packedProper p ≡ true) where
       let proper = bits-and-lock (unpacked p) (proper-unpacked p e .proper) .0 in
       lowered w (p .bits) h (proper-small p e) (eqb-true (p .bits % 2 ^ (50 - w)) 0 (sym (proper-number w (p .bits) h) ∙ proper))
 
-  module _ (l : Lock) (taken : l ≡ lockIn (unpacked p)) (q : ℕ) (weight : q ≡ 2 ^ (50 - p .waiting)) where
+  module _ (q : ℕ) (weight : q ≡ 2 ^ (50 - p .waiting)) where
     pub window-lt : p .bits / q < 2 ^ p .waiting
     window-lt = rw weight (window-in .1)
 
@@ -87,9 +83,10 @@ module _ (p : PackedState) (e : packedProper p ≡ true) where
         let k : 49 - p .waiting + p .waiting ≡ 49 = omega (arith, few) in
         d ∙ rw k at (in-front (49 - p .waiting) (p .waiting) (p .bits / q) window-lt)
 
-    -- the state taken apart and put together
-    pub entered : (stop : Bool) (bits : List ℕ) → goesOn stop bits 0 0 0 0 (stateOf l (p .waiting) (placesOf (p .waiting) (p .bits / q))) ≡ goesOn stop bits 0 0 0 0 (unpacked p)
-    entered stop bits = rw (taken, weight, ← window-in .0)
+  -- the state taken apart and put together
+  pub entered : {l : Lock} {w n : ℕ} → l ≡ lockIn (unpacked p) → w ≡ p .waiting → n ≡ p .bits / 2 ^ (50 - p .waiting) → (stop : Bool) (bits : List ℕ)
+      → goesOn stop bits 0 0 0 0 (stateOf l w (placesOf w n)) ≡ goesOn stop bits 0 0 0 0 (unpacked p)
+  entered el ew en stop bits = rw (el, ew, en, ← window-in .0)
 
 -- ---- a full window
 
@@ -114,26 +111,27 @@ pub goes-same : (stop : Bool) (bs : List ℕ) (fed : ℕ) {l k : Lock} {w v n m 
     → goesOn stop bs fed g b p (stateOf l w (placesOf w n)) ≡ goesOn stop bs fed good bad passed (stateOf k v (placesOf v m))
 goes-same stop bs fed el ew en eg eb ep = rw (el, ew, en, eg, eb, ep)
 
-module _ (stop : Bool) (fed good bad passed b : ℕ) (bs : List ℕ) (bit : b < 2) (l : Lock) (w n : ℕ) where
+module _ (stop : Bool) (fed good bad passed b : ℕ) (bs : List ℕ) (bit : b < 2) (l : Lock) (w n v : ℕ) (d : v ≡ n * 2 + b) where
+  filled : w < 50 → set (placesOf w n) w b ≡ placesOf (w + 1) v
+  filled h = rw d (joins w n b h bit)
+
   pub more-wait : w < 49
-      → goesOn stop (b ∷ bs) fed good bad passed (stateOf l w (placesOf w n))
-      ≡ goesOn stop bs (fed + 1) good bad passed (stateOf l (w + 1) (placesOf (w + 1) (n * 2 + b)))
+      → goesOn stop (b ∷ bs) fed good bad passed (stateOf l w (placesOf w n)) ≡ goesOn stop bs (fed + 1) good bad passed (stateOf l (w + 1) (placesOf (w + 1) v))
   more-wait h =
       on-waits stop fed good bad passed b bs bit l w (placesOf w n) h
-      ∙ ap (λ (t : List ℕ). goesOn stop bs (fed + 1) good bad passed (stateOf l (w + 1) t)) (joins w n b (omega arith) bit)
+      ∙ ap (λ (t : List ℕ). goesOn stop bs (fed + 1) good bad passed (stateOf l (w + 1) t)) (filled (omega arith))
 
-  module _ (h : w + 1 ≡ 50) (j : Judged) (e : j ≡ judgedBy l (readOf (bitsOf 50 (n * 2 + b)))) where
-    filled : set (placesOf w n) w b ≡ bitsOf 50 (n * 2 + b)
-    filled = joins w n b (omega arith) bit ∙ ap (λ (k : ℕ). placesOf k (n * 2 + b)) h ∙ full (n * 2 + b)
+  module _ (h : w + 1 ≡ 50) (j : Judged) (e : j ≡ judgedBy l (readOf (bitsOf 50 v))) where
+    window : set (placesOf w n) w b ≡ bitsOf 50 v
+    window = filled (omega arith) ∙ ap (λ (k : ℕ). placesOf k v) h ∙ full v
 
     judged : j ≡ judgedBy l (readOf (set (placesOf w n) w b))
-    judged = e ∙ sym (ap (λ (t : List ℕ). judgedBy l (readOf t)) filled)
+    judged = e ∙ sym (ap (λ (t : List ℕ). judgedBy l (readOf t)) window)
 
     pub goes-over : j ≡ passedOver l
-        → goesOn stop (b ∷ bs) fed good bad passed (stateOf l w (placesOf w n))
-        ≡ goesOn stop bs (fed + 1) good bad (passed + 1) (stateOf l 49 (placesOf 49 ((n * 2 + b) % 2 ^ 49)))
+        → goesOn stop (b ∷ bs) fed good bad passed (stateOf l w (placesOf w n)) ≡ goesOn stop bs (fed + 1) good bad (passed + 1) (stateOf l 49 (placesOf 49 (v % 2 ^ 49)))
     goes-over k =
-        rw (k, add-zero good, add-zero bad, filled, passes (n * 2 + b))
+        rw (k, add-zero good, add-zero bad, window, passes v)
         at (on-judges stop fed good bad passed b bs bit l w (placesOf w n) (omega arith) j judged (λ _. rw k (same-lock (l .mode))))
 
     module _ (k : j .passed ≡ 0) where
@@ -146,7 +144,7 @@ module _ (stop : Bool) (fed good bad passed b : ℕ) (bs : List ℕ) (bit : b < 
 
       pub ends-here : stop ≡ true → sameLock (l .mode) (j .lock .mode) ≡ false
           → goesOn stop (b ∷ bs) fed good bad passed (stateOf l w (placesOf w n))
-          ≡ withFed (packedRan (ended 0 (good + j .good) (bad + j .bad) passed (nothingWaits (j .lock)))) (fed + 1)
+          ≡ withFed (packedRan (ended 0 (good + j .good) (bad + j .bad) passed (stateOf (j .lock) 0 (placesOf 0 0)))) (fed + 1)
       ends-here stops change =
-          rw (k, add-zero passed)
+          rw (k, add-zero passed, ← used-up)
           at (on-ends stop fed good bad passed b bs bit l w (placesOf w n) (omega arith) j judged stops change)

@@ -12,8 +12,6 @@ ghost use Rattle.receiver.specs.Packed.{freshPacked, unpacked, packedPro
 ghost use Rattle.receiver.specs.Runs.{countsOf, runOf, fedOf};
 ghost use Rattle.receiver.specs.States.{freshOf};
 use block::Packed;
-use block::circuit::remainder;
-use block::circuit::turn;
 use record::Record;
 use refusal::Refusal;
 use states::is_proper;
@@ -23,8 +21,11 @@ use states::packed_of;
 use states::packed_with;
 use states::unpack;
 use windows::behind_first;
+use windows::empty;
 use windows::is_passed_over;
-use windows::weight;
+use windows::join;
+use windows::move_on;
+use windows::window_in;
 
 // The state, as it is lent: plain numbers, and what is not in use is 0.
 #[repr(C)]
@@ -132,9 +133,7 @@ fn feed_all(state: PackedState, bits: &[u8], stop: bool) -> Stretch
     ensures { λ r. ⌜ r ≡ stretchFrom (upTo stop (unpacked state) (now (bits .entry))) 0 0 0 0 (unpacked state) ⌝ }
 {
     let mut lock = lock_in(state);
-    let mut waiting = state.waiting as u32;
-    let mut window = state.bits / weight(waiting);
-    let mut register = remainder(window);
+    let mut window = window_in(state);
     let mut good: u32 = 0;
     let mut bad: u32 = 0;
     let mut passed: u32 = 0;
@@ -143,36 +142,30 @@ fn feed_all(state: PackedState, bits: &[u8], stop: bool) -> Stretch
         let bit = bits[i];
         if 1 < bit {
             let why = refusal::number(Refusal::NotABit);
-            return counted(why, good, bad, passed, i, kept(lock, waiting, window));
+            return counted(why, good, bad, passed, i, kept(lock, window));
         }
-        window = window * 2 + (bit as u64);
-        register = turn(register, bit) as u32;
-        waiting += 1;
-        if waiting == 50 {
-            let left = behind_first(window, register);
-            if is_passed_over(lock.mode, window, register) {
+        window = join(window, bit);
+        if window.waiting == 50 {
+            let left = behind_first(window);
+            if is_passed_over(lock.mode, window) {
                 passed += 1;
-                window = window % 0x2_0000_0000_0000;
-                register = left;
-                waiting = 49;
+                window = move_on(window, left);
             } else {
-                let judged = locking::judge(lock, block::read_by(window, left));
+                let judged = locking::judge(lock, block::read_by(window.bits, left));
                 good += judged.good as u32;
                 bad += judged.bad as u32;
                 let before = lock.mode;
                 let next = judged.lock;
                 lock = next;
-                window = 0;
-                register = 0;
-                waiting = 0;
+                window = empty();
                 if ends(stop, before, lock.mode) {
-                    return counted(0, good, bad, passed, i + 1, packed_of(lock, 0, 0));
+                    return counted(0, good, bad, passed, i + 1, kept(lock, window));
                 }
             }
         }
         i += 1;
     }
-    counted(0, good, bad, passed, i, kept(lock, waiting, window))
+    counted(0, good, bad, passed, i, kept(lock, window))
 }
 
 // A run of all the bits or, where it is to stop there, of those up to the one with which lock changes.

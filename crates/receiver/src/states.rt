@@ -3,8 +3,10 @@ ghost use mathlib.Core.Path.{_≡_};
 ghost use Prim.Native.Nat.{_<_, _≤_, _-_, _*_, _^_};
 ghost use Rattle.receiver.specs.Packed.{packedOf, unpacked, packedProper};
 ghost use Rattle.receiver.specs.States.{lockIn};
+ghost use Rattle.receiver.specs.Windows.{Turned};
 use crate::PackedState;
 use crate::State;
+use crate::windows::Window;
 use crate::windows::weight;
 use locking::Lock;
 use timekeeping::Time;
@@ -44,11 +46,15 @@ pub fn packed_of(lock: Lock, waiting: u8, bits: u64) -> PackedState
 }
 
 // The state in which the bits of a window wait: the first of them in place 49.
-pub fn kept(lock: Lock, waiting: u32, window: u64) -> PackedState
-    requires { ⌜ (waiting ≤ 50) × (window < 2 ^ waiting) ⌝ }
-    ensures { λ p. ⌜ p ≡ packedOf lock waiting (window * 2 ^ (50 - waiting)) ⌝ }
+pub fn kept(lock: Lock, window: Window) -> PackedState
+    requires { ⌜ (window .waiting ≤ 50) × Turned window ⌝ }
+    ensures { λ p. ⌜ p ≡ packedOf lock (window .waiting) (window .bits * 2 ^ (50 - window .waiting)) ⌝ }
 {
-    packed_of(lock, waiting as u8, window * weight(waiting))
+    packed_of(
+        lock,
+        window.waiting as u8,
+        window.bits * weight(window.waiting),
+    )
 }
 
 pub fn is_proper(state: PackedState) -> bool

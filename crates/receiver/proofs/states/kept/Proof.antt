@@ -1,4 +1,4 @@
--- `kept` meets its contract: the bits of the window weigh at most 2^50 together.
+-- `kept` meets its contract: the bits of the window weigh less than 2^50 together.
 -- Assumes nothing.
 use borrow.Author.Needs.{needs}
 use mathlib.Core.Path.{_≡_}
@@ -16,16 +16,17 @@ weight-requires c κs = search needs
 
 mul-packed-of : tie.Need-mul-packed-of
 mul-packed-of c =
-    let a = c .before .args in
-    let e : a .waiting + (50 - a .waiting) ≡ 50 = omega arith in
-    let fits : a .window * 2 ^ (50 - a .waiting) < 2 ^ 50 = rw e at (shl-lt (a .waiting) (50 - a .waiting) (c .before .pre .1)) in
-    rw (c .weight .ensures) (omega arith)
+    let start = c .before .before .before in
+    let w = start .args .window in
+    let e : w .waiting + (50 - w .waiting) ≡ 50 = omega (arith, start .pre .0) in
+    let fits : w .bits * 2 ^ (50 - w .waiting) < 2 ^ 50 = rw e at (shl-lt (w .waiting) (50 - w .waiting) (start .pre .1 .0)) in
+    rw (c .before .weight .ensures) (omega (arith, fits))
 
 packed-of-requires : tie.Need-packed-of-requires
 packed-of-requires c κs = search needs
 
 returns : tie.Need-returns
-returns c = rw (c .packed-of .ensures, c .before .weight .ensures)
+returns c = rw (c .packed-of .ensures, c .before .before .weight .ensures)
 
 pub kept-spec : {M : Type 1} → statement M
 kept-spec =
