@@ -1,6 +1,6 @@
 -- The two layouts of a state say the same: packing and unpacking undo each other, and so every call answers the same in both.
 -- Assumes nothing.
-use mathlib.Core.Path.{_≡_, refl, sym, _∙_}
+use mathlib.Core.Path.{_≡_, refl, sym, ap, _∙_}
 use mathlib.Core.Bool.{Bool, true, false, and-eq-true-iff}
 use mathlib.Core.List.{List, [], _∷_}
 use Prim.Native.Nat.{ℕ, _^_, _<_}
@@ -22,7 +22,7 @@ use Rattle.receiver.specs.States.{freshOf, lockIn, properOf}
 use Rattle.receiver.specs.declared.Counts.{Counts}
 use Rattle.receiver.specs.Runs.{runOf, fedOf}
 use Rattle.receiver.specs.Packed.{packedOf, packed, unpacked, freshPacked, packedProper, packedRan, runPacked, fedPacked}
-use Rattle.receiver.proofs.StaysProper.{Proper, bits-and-lock, from-proper}
+use Rattle.receiver.proofs.StaysProper.{Proper, bits-and-lock, from-proper, fresh-proper}
 use Rattle.receiver.proofs.Numbers.{proper-bits}
 use Rattle.receiver.proofs.Together.{fed-run}
 
@@ -64,6 +64,9 @@ run-fifty s bs f =
 pub fresh-packed : freshPacked ≡ packed freshOf
 unfolding freshOf valueFrom
 fresh-packed = refl
+
+pub fresh-packed-proper : packedProper freshPacked ≡ true
+fresh-packed-proper = ap packedProper fresh-packed ∙ packed-proper freshOf fresh-proper
 
 -- ---- from the number and back
 

@@ -4,10 +4,8 @@ use borrow.Author.Needs.{needs}
 use mathlib.Core.Bool.{true}
 use mathlib.Core.Path.{_≡_}
 use native.Mathlib.Omega.{arith}
-use Rattle.receiver.specs.States.{freshOf}
 use Rattle.receiver.specs.Packed.{packedProper}
-use Rattle.receiver.proofs.StaysProper.{fresh-proper}
-use Rattle.receiver.proofs.Layouts.{packed-proper}
+use Rattle.receiver.proofs.Layouts.{fresh-packed-proper}
 use Rattle.receive.proofs.Hearing.{fed-proper}
 use Rattle.receive.proofs.main.Statement.{statement}
 use Rattle.receive.proofs.main.Tie as tie
@@ -22,7 +20,7 @@ fresh-requires : tie.Need-fresh-requires Inv-loop μ-loop
 fresh-requires c κs = tt
 
 loop-holds : tie.Need-loop-holds Inv-loop μ-loop
-loop-holds c = rw (c .fresh .ensures) (packed-proper freshOf fresh-proper)
+loop-holds c = rw (c .fresh .ensures) fresh-packed-proper
 
 read-piece-requires : tie.Need-read-piece-requires Inv-loop μ-loop
 read-piece-requires c κs = c .before .before .before .before .loop .inv
