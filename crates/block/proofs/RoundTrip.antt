@@ -1,6 +1,6 @@
 -- What is written: the bits of one number, a good block, which reads back; and what is taken as a block is what is written.
 -- Assumes nothing.
-use mathlib.Core.List.{List, _∷_, _++_, append-assoc}
+use mathlib.Core.List.{List, _++_, append-assoc}
 use mathlib.Core.Path.{_≡_, refl, sym, ap, ap₂, _∙_}
 use Prim.Native.Nat.{ℕ, _<_, _+_, _*_, _^_}
 use native.Mathlib.Omega.{arith}

@@ -15,7 +15,7 @@ use lib.Seq.{drop-cons, drop-drop, take-all}
 use lib.Arith.{digits-div, digits-mod}
 use lib.Bits.{bitXor, xor-lt, xor-zero-r, block-half, block-odd}
 use Rattle.block.specs.Bits.{Bits, areBits, zeros, xors, value, valueFrom, bitsOf}
-use Rattle.block.specs.Division.{generator, stepBit, remainderFrom, remainder}
+use Rattle.block.specs.Division.{stepBit, remainderFrom, remainder}
 use Rattle.block.proofs.Linear.{step-lt, rem-xor}
 
 -- ---- parts
@@ -223,14 +223,6 @@ bitsOf-val k bs h l =
     (val-bitsOf k (value bs) (subst (λ (n : ℕ). value bs < 2 ^ n) l (val-lt bs h)))
 
 -- ---- the division
-
-pub rem-next : (s : List ℕ) (r i : ℕ) → i < length s → remainderFrom r (drop i s) ≡ remainderFrom (stepBit r (getD s i 0)) (drop (i + 1) s)
-unfolding remainderFrom
-rem-next s r i h = ap (remainderFrom r) (next s i h)
-
-pub rem-done : (s : List ℕ) (r i : ℕ) → length s ≤ i → remainderFrom r (drop i s) ≡ r
-unfolding remainderFrom
-rem-done s r i h = ap (remainderFrom r) (drop-of-length-le s h)
 
 pub rem-first : (k n r : ℕ) → 0 < k → remainderFrom r (bitsOf k n) ≡ remainderFrom (stepBit r (n / 2 ^ (k - 1) % 2)) (bitsOf (k - 1) n)
 unfolding remainderFrom

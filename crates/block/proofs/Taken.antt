@@ -11,7 +11,7 @@ use lib.ListN.{length, drop, length-take, length-drop}
 use Rattle.refusal.specs.declared.Refusal.{Refusal}
 use Rattle.refusal.specs.declared.Refusal.the-variants.{NotABit, WrongLength, WrongPrefix, WrongCheckWord}
 use Rattle.block.specs.Bits.{Bits, areBits, bitsOf, value}
-use Rattle.block.specs.Block.{Good, blockOf, bodyOf, prefixIn, codeIn, wordIn, bodyIn, checkIn, checkOf}
+use Rattle.block.specs.Block.{blockOf, bodyOf, prefixIn, codeIn, wordIn, bodyIn, checkIn, checkOf}
 use Rattle.block.specs.Read.{must, readOf}
 use Rattle.block.specs.declared.Read.{Read}
 use Rattle.block.specs.declared.Read.the-variants.{Block}
@@ -32,9 +32,6 @@ module _ (s : List ℕ) (code word : ℕ) (e : readOf s ≡ Block code word) whe
       let prefix = through (eqb (prefixIn s) 1) WrongPrefix _ (bits .1) in
       let check = through (eqb (value (checkIn s)) (checkOf (bodyIn s))) WrongCheckWord _ (prefix .1) in
       (eqb-true (length s) 50 (size .0), are-bits s (bits .0), eqb-true (prefixIn s) 1 (prefix .0), eqb-true (value (checkIn s)) (checkOf (bodyIn s)) (check .0), check .1)
-
-  pub taken-good : Good s
-  taken-good = record { size = tests .0; bits = tests .1; prefix = tests .2; check = tests .3 }
 
   code-is : value (codeIn s) ≡ code
   code-is = let d = tests .4 in cc

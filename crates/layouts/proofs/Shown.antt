@@ -14,7 +14,7 @@ use Rattle.block.specs.Bits.{bitsOf}
 use Rattle.block.specs.Read.{readOf}
 use Rattle.block.specs.Write.{writeOf, writtenOf}
 use Rattle.block.specs.Choose.{between, choiceOf}
-use Rattle.block.specs.Packed.{readPacked, writePacked, choosePacked, packOf, unpackedOf}
+use Rattle.block.specs.Packed.{readPacked, writePacked, packOf, unpackedOf}
 use Rattle.block.specs.declared.Packed.{Packed}
 use Rattle.block.specs.declared.Packed.the-variants as packing
 use Rattle.block.specs.declared.Written.{Written}
@@ -23,7 +23,6 @@ use Rattle.block.proofs.Packing.{Packs, packs, packs-not, packs-bits, fifty-lt}
 use Rattle.block.proofs.Reading.{packed-reads}
 use Rattle.block.proofs.RoundTrip.{written-good}
 use Rattle.block.proofs.Strings.{bitsOf-val, bits-bitsOf, length-bitsOf, val-bitsOf}
-use Rattle.receiver.proofs.StaysProper.{Proper}
 use Rattle.receiver.proofs.Layouts as states
 use Rattle.layouts.specs.Layouts.{Layouts}
 
