@@ -5,13 +5,9 @@ use Rattle.refusal.proofs.Determined.{Determined}
 use Rattle.locking.proofs.fresh_lock.Reads as fresh-lock
 use Rattle.locking.proofs.is_proper.Reads as is-proper
 use Rattle.locking.proofs.judge.Reads as judge
-use Rattle.locking.proofs.passed_over.Reads as passed-over
 
 pub fresh-lock-determined : Determined fresh-lock.Post
 fresh-lock-determined κs a x y s t p q = p ∙ sym q
-
-pub passed-over-determined : Determined passed-over.Post
-passed-over-determined κs a x y s t p q = p ∙ sym q
 
 pub judge-determined : Determined judge.Post
 judge-determined κs a x y s t p q = p ∙ sym q

@@ -63,7 +63,7 @@ fn bad_block(lock: Lock) -> Judged
     }
 }
 
-pub fn passed_over(lock: Lock) -> Judged
+fn passed_over(lock: Lock) -> Judged
     ensures { λ j. ⌜ j ≡ passedOver lock ⌝ }
 {
     Judged {
