@@ -23,6 +23,10 @@ judged-elim P l w good bad passed =
     cond-elim P (eqb (l .mode) trying) (λ _. cond-elim P (isGood w) (λ _. good _) (λ _. bad _))
     (λ _. cond-elim P (isGood w) (λ _. good _) (λ _. bad _)))
 
+-- so it counts one of the three
+pub counts-one : (l : Lock) (w : Read) {j : Judged} → j ≡ judgedBy l w → j .good + j .bad + j .passed ≡ 1
+counts-one l w e = rw e (judged-elim (λ (j : Judged). j .good + j .bad + j .passed ≡ 1) l w (λ _. refl) (λ _. refl) refl)
+
 -- a locked state stays so, with the block offered to its time, or it is fresh
 pub held-elim : (P : Judged → Type 0) (bad : ℕ) (t : Time) (w : Read) → P (goodBlock (lockOf locked 0 0 (offeredTo t (usableIn w)))) → P (badBlock freshLock)
     → (bad + 1 < 4 → P (badBlock (lockOf locked 0 (bad + 1) (offeredTo t (usableIn w))))) → P (heldOn bad t w)

@@ -19,23 +19,26 @@ use Rattle.receiver.specs.Steps.{Step, stepOf}
 use Rattle.receiver.specs.Runs.{runFrom, runOf}
 use Rattle.receiver.specs.History.{bitsBefore}
 use Rattle.receiver.proofs.Choices.{filled, judges, step-elim}
-use Rattle.receiver.proofs.Small.{step-small}
+use Rattle.receiver.proofs.Room.{step-room}
 use Rattle.receiver.proofs.StaysProper.{room}
 
--- what a step counts and leaves waiting makes up n bits
-abbrev MadeUp : ℕ → Step → Type 0
-MadeUp n t = n ≡ 50 * (t .good + t .bad) + t .passed + t .next .waiting
+-- so many bits are fifty for each block, those passed over and those that wait
+abbrev pub MadeUp : ℕ → ℕ → ℕ → ℕ → ℕ → Type 0
+MadeUp n good bad passed waiting = n ≡ 50 * (good + bad) + passed + waiting
 
-pub step-balance : (s : State) (b : ℕ) → s .waiting < 50 → MadeUp (s .waiting + 1) (stepOf s b)
+abbrev Stepped : ℕ → Step → Type 0
+Stepped n t = MadeUp n (t .good) (t .bad) (t .passed) (t .next .waiting)
+
+pub step-balance : (s : State) (b : ℕ) → s .waiting < 50 → Stepped (s .waiting + 1) (stepOf s b)
 step-balance s b h =
-    step-elim (MadeUp (s .waiting + 1)) s b (λ _. omega arith)
+    step-elim (Stepped (s .waiting + 1)) s b (λ _. omega arith)
     (λ full.
     let e : s .waiting + 1 ≡ 50 = omega arith in
-    rw e (judged-elim (λ (j : Judged). MadeUp 50 (judges (filled s b) j)) (lockIn s) (readOf (filled s b)) (λ _. refl) (λ _. refl) refl))
+    rw e (judged-elim (λ (j : Judged). Stepped 50 (judges (filled s b) j)) (lockIn s) (readOf (filled s b)) (λ _. refl) (λ _. refl) refl))
 
 -- so for a run
 abbrev Balanced : ℕ → Ran → Type 0
-Balanced n r = n ≡ 50 * (r .counts .good + r .counts .bad) + r .counts .passed + r .counts .waiting
+Balanced n r = MadeUp n (r .counts .good) (r .counts .bad) (r .counts .passed) (r .counts .waiting)
 
 from-balance : (bs : List ℕ) (good bad passed : ℕ) (s : State) → s .waiting < 50
     → Balanced (s .waiting + length (bitsBefore bs) + 50 * (good + bad) + passed) (runFrom bs good bad passed s)
@@ -44,7 +47,7 @@ from-balance [] good bad passed s h = omega arith
 from-balance (b ∷ bs) good bad passed s h =
     let t : Step = stepOf s b in
     cond-elim (Balanced (s .waiting + length (bitsBefore (b ∷ bs)) + 50 * (good + bad) + passed)) (ltb b 2)
-    (λ e. rw e (omega (arith, step-balance s b h, from-balance bs (good + t .good) (bad + t .bad) (passed + t .passed) (t .next) (step-small s b .room))))
+    (λ e. rw e (omega (arith, step-balance s b h, from-balance bs (good + t .good) (bad + t .bad) (passed + t .passed) (t .next) (step-room s b))))
     (λ e. rw e (omega arith))
 
 -- unless the run is refused with 9 or 10, what waited and what was fed balance with what it counts

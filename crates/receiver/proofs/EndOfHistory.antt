@@ -21,7 +21,7 @@ use Rattle.receiver.specs.Steps.{Step, waitingAfter, bitsAfter, stepOf}
 use Rattle.receiver.specs.History.{afterFrom, after, afterFirst, windowTo, BlockTo, JudgedInPlace, LockedSince}
 use Rattle.receiver.proofs.Choices.{filled, step-elim}
 use Rattle.receiver.proofs.WholeHistory.{after-append}
-use Rattle.receiver.proofs.Small.{step-small, filled-places, step-places}
+use Rattle.receiver.proofs.Room.{step-room, filled-places, step-places}
 
 -- a history and then one bit more
 infixl 20 _▹_
@@ -101,7 +101,7 @@ module _ (l : List ℕ) (b : ℕ) (s : State) (p : Waiting l s) where
       (rw (ends-full h) (ends-on (p .ends .0) (filled s b) places-more)))
 
   waiting-more : Waiting (l ▹ b) (stepOf s b .next)
-  waiting-more = record { places = step-places s b (p .places); room = step-small s b .room; ends = step-ends }
+  waiting-more = record { places = step-places s b (p .places); room = step-room s b; ends = step-ends }
 
   -- the full window ends now
   module _ (h : 49 ≤ s .waiting) where

@@ -1,6 +1,6 @@
 -- The laws, in reading order.
 pub mod Choices
-pub mod Small
+pub mod Room
 pub mod StaysProper
 pub mod Balance
 pub mod Together

@@ -26,7 +26,7 @@ use Rattle.receiver.specs.States.{freshOf, lockIn, bitsProper, properOf}
 use Rattle.receiver.specs.Steps.{Step, stepOf}
 use Rattle.receiver.specs.Runs.{runFrom, runOf}
 use Rattle.receiver.proofs.Choices.{filled, waits, judges, step-elim}
-use Rattle.receiver.proofs.Small.{filled-places, step-places}
+use Rattle.receiver.proofs.Room.{filled-places, step-places}
 
 -- ---- the bits
 

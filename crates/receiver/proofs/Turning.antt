@@ -107,9 +107,9 @@ module _ (l : Lock) (w : Read) (t : Bool) (e : t ≡ (eqb (l .mode) hunting && n
 -- ---- one bit
 
 -- what goes on from the same lock, number and counts is the same
-pub goes-same : (stop : Bool) (bs : List ℕ) (fed : ℕ) {l k : Lock} {w v n m g good b bad p passed : ℕ} → l ≡ k → w ≡ v → n ≡ m → g ≡ good → b ≡ bad → p ≡ passed
-    → goesOn stop bs fed g b p (stateOf l w (placesOf w n)) ≡ goesOn stop bs fed good bad passed (stateOf k v (placesOf v m))
-goes-same stop bs fed el ew en eg eb ep = rw (el, ew, en, eg, eb, ep)
+pub goes-same : (stop : Bool) (bs : List ℕ) (fed passed : ℕ) {l k : Lock} {w v n m g good b bad : ℕ} → l ≡ k → w ≡ v → n ≡ m → g ≡ good → b ≡ bad
+    → goesOn stop bs fed g b passed (stateOf l w (placesOf w n)) ≡ goesOn stop bs fed good bad passed (stateOf k v (placesOf v m))
+goes-same stop bs fed passed el ew en eg eb = rw (el, ew, en, eg, eb)
 
 module _ (stop : Bool) (fed good bad passed b : ℕ) (bs : List ℕ) (bit : b < 2) (l : Lock) (w n v : ℕ) (d : v ≡ n * 2 + b) where
   filled : w < 50 → set (placesOf w n) w b ≡ placesOf (w + 1) v

@@ -4,7 +4,7 @@ mod windows;
 
 ghost use mathlib.Core.Bool.{true, _&&_, not};
 ghost use mathlib.Core.Path.{_≡_};
-ghost use Prim.Native.Nat.{_≤_};
+ghost use Prim.Native.Nat.{_≤_, _<_, _+_, _-_, _*_, _^_};
 ghost use lib.ListN.{length};
 ghost use Rattle.refusal.specs.Numbers.{numberOf};
 ghost use Rattle.receiver.specs.Changes.{sameLock, upTo, withFed, stretchFrom, stretchOf, runToChange};
@@ -87,15 +87,18 @@ pub fn fresh_packed() -> PackedState
     packed_of(locking::fresh_lock(), 0, 0)
 }
 
-fn counted(refusal: u8, good: u32, bad: u32, passed: u32, fed: usize, state: PackedState) -> Stretch
-    ensures { λ r. ⌜ r ≡ withFed (endedPacked refusal good bad passed state) fed ⌝ }
+// Where a run ends. Each block took fifty of the bits that waited before and were fed; what does not wait was passed over.
+fn counted(refusal: u8, good: u32, bad: u32, waited: u32, fed: usize, state: PackedState) -> Stretch
+    requires { ⌜ (50 * (good + bad) + state .waiting ≤ waited + fed) × (waited + fed < 2 ^ 32) ⌝ }
+    ensures { λ r. ⌜ r ≡ withFed (endedPacked refusal good bad (waited + fed - 50 * (good + bad) - state .waiting) state) fed ⌝ }
 {
+    let waiting = state.waiting as u32;
     let counts = Counts {
         refusal,
         good,
         bad,
-        passed,
-        waiting: state.waiting as u32,
+        passed: waited + (fed as u32) - 50 * (good + bad) - waiting,
+        waiting,
     };
     let ran = PackedRan { counts, state };
     Stretch { ran, fed }
@@ -134,21 +137,20 @@ fn feed_all(state: PackedState, bits: &[u8], stop: bool) -> Stretch
 {
     let mut lock = lock_in(state);
     let mut window = window_in(state);
+    let waited = window.waiting;
     let mut good: u32 = 0;
     let mut bad: u32 = 0;
-    let mut passed: u32 = 0;
     let mut i: usize = 0;
     while i < bits.len() {
         let bit = bits[i];
         if 1 < bit {
             let why = refusal::number(Refusal::NotABit);
-            return counted(why, good, bad, passed, i, kept(lock, window));
+            return counted(why, good, bad, waited, i, kept(lock, window));
         }
         window = join(window, bit);
         if window.waiting == 50 {
             let left = behind_first(window);
             if is_passed_over(lock.mode, window) {
-                passed += 1;
                 window = move_on(window, left);
             } else {
                 let judged = locking::judge(lock, block::read_by(window.bits, left));
@@ -159,13 +161,13 @@ fn feed_all(state: PackedState, bits: &[u8], stop: bool) -> Stretch
                 lock = next;
                 window = empty();
                 if ends(stop, before, lock.mode) {
-                    return counted(0, good, bad, passed, i + 1, kept(lock, window));
+                    return counted(0, good, bad, waited, i + 1, kept(lock, window));
                 }
             }
         }
         i += 1;
     }
-    counted(0, good, bad, passed, i, kept(lock, window))
+    counted(0, good, bad, waited, i, kept(lock, window))
 }
 
 // A run of all the bits or, where it is to stop there, of those up to the one with which lock changes.

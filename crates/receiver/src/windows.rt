@@ -68,16 +68,17 @@ pub fn join(window: Window, bit: u8) -> Window
 // What x^49 leaves: what the first bit of a full window, a 1, has put into the register.
 const FIRST: u32 = 0x1283;
 
-// What a full window leaves without its first bit, which is taken off the register again.
+// What a full window leaves without its first bit, whose part is taken off the register again. The part is chosen before the
+// register is touched: so the choice does not have to wait for the turn.
 pub fn behind_first(window: Window) -> u32
     requires { ⌜ (window .waiting ≡ 50) × Turned window ⌝ }
     ensures { λ r. ⌜ r ≡ remainder (bitsOf 49 (window .bits)) ⌝ }
 {
+    let mut part = FIRST;
     if window.bits < 0x2_0000_0000_0000 {
-        window.register
-    } else {
-        window.register ^ FIRST
+        part = 0;
     }
+    window.register ^ part
 }
 
 // Whether a full window passes its oldest bit over: when hunting, unless it is a good block, which starts with 1 and leaves what

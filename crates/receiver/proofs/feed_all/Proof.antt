@@ -1,12 +1,11 @@
 -- `feed_all` meets its contract. The loop's invariant: what is left from here, with what is fed, counted and held, gives the whole
--- run, and the register of the window holds what its bits leave.
+-- run, and the register of the window holds what its bits leave. The bits passed over are not counted: they make up the balance.
 -- Assumes nothing.
 use borrow.Author.Needs.{needs}
 use mathlib.Core.Bool.{true}
-use mathlib.Core.List.{[]}
 use mathlib.Core.Logic.{⊎-elim}
 use mathlib.Core.Path.{_≡_, refl, sym, ap, _∙_, subst}
-use Prim.Native.Nat.{ℕ, _+_, _≤_, _<_, _-_}
+use Prim.Native.Nat.{ℕ, _+_, _-_, _*_, _≤_, _<_}
 use native.Mathlib.Omega.{arith}
 use lib.ListN.{length, getD, drop, drop-of-length-le}
 use Rattle.block.proofs.Strings.{next}
@@ -14,14 +13,15 @@ use Rattle.locking.specs.declared.Judged.{Judged}
 use Rattle.locking.specs.declared.Lock.{Lock}
 use Rattle.locking.specs.Locks.{lockProper}
 use Rattle.locking.specs.Modes.{passedOver, judgedBy}
+use Rattle.locking.proofs.Choices.{counts-one}
 use Rattle.locking.proofs.StaysProper.{judged-proper}
 use Rattle.receiver.specs.declared.State.{State}
 use Rattle.receiver.specs.declared.windows.Window.{Window}
 use Rattle.receiver.specs.States.{stateOf}
 use Rattle.receiver.specs.Changes.{sameLock}
 use Rattle.receiver.specs.Windows.{Turned}
+use Rattle.receiver.proofs.Balance.{MadeUp}
 use Rattle.receiver.proofs.First.{fifty}
-use Rattle.receiver.proofs.Small.{judged-small}
 use Rattle.receiver.proofs.StaysProper.{bits-and-lock}
 use Rattle.receiver.proofs.Layouts.{proper-unpacked}
 use Rattle.receiver.proofs.Numbers.{placesOf}
@@ -41,12 +41,17 @@ abbrev number : Window → ℕ
 number w = w .bits
 
 abbrev Inv-loop : tie.InvT-loop
-Inv-loop bits stop lock₀ window₀ good₀ bad₀ passed₀ i₀ lock window good bad passed i =
-    (i ≤ length bits) × (window .waiting < 50) × Turned window × (lockProper lock ≡ true) × (good ≤ i) × (bad ≤ i) × (passed ≤ i)
-    × (goesOn stop (drop i bits) i good bad passed (held lock window) ≡ goesOn stop bits 0 0 0 0 (held lock₀ window₀))
+Inv-loop bits stop lock₀ window₀ waited good₀ bad₀ i₀ lock window good bad i =
+    (i ≤ length bits) × (window .waiting < 50) × Turned window × (lockProper lock ≡ true)
+    × ((passed : ℕ) × MadeUp (waited + i) good bad passed (window .waiting)
+    × (goesOn stop (drop i bits) i good bad passed (held lock window) ≡ goesOn stop bits 0 0 0 0 (held lock₀ window₀)))
 
 abbrev μ-loop : tie.MeasureT-loop
-μ-loop bits stop lock₀ window₀ good₀ bad₀ passed₀ i₀ lock window good bad passed i = length bits - i
+μ-loop bits stop lock₀ window₀ waited good₀ bad₀ i₀ lock window good bad i = length bits - i
+
+-- the bits passed over are what is left of them
+passed-is : (n good bad passed w : ℕ) → MadeUp n good bad passed w → n - 50 * (good + bad) - w ≡ passed
+passed-is n good bad passed w made = omega arith
 
 lock-in-requires : tie.Need-lock-in-requires Inv-loop μ-loop
 lock-in-requires c κs = search needs
@@ -64,10 +69,7 @@ loop-holds c =
       omega (arith, w .0, few p (start .pre .0)),
       w .2,
       rw (lock .lock-in .ensures) (bits-and-lock _ (proper-unpacked p (start .pre .0) .proper) .1),
-      omega arith,
-      omega arith,
-      omega arith,
-      refl,
+      (0, omega arith, refl),
     )
 
 shared-slice-read-bit : tie.Need-shared-slice-read-bit Inv-loop μ-loop
@@ -80,7 +82,11 @@ kept-requires : tie.Need-kept-requires Inv-loop μ-loop
 kept-requires c κs = let inv = c .before .before .before .before .loop .inv in (omega (arith, inv .1), inv .2)
 
 counted-requires : tie.Need-counted-requires Inv-loop μ-loop
-counted-requires c κs = search needs
+counted-requires c κs =
+    let at = c .before .before .before .before .before in
+    let start = at .before .before .before .before in
+    let w = at .before .window-in .ensures .0 in
+    (rw (c .kept .ensures) (omega (arith, at .loop .inv .4 .1)), omega (arith, at .loop .inv .0, start .pre .1, w, few (start .args .state) (start .pre .0)))
 
 returns : tie.Need-returns Inv-loop μ-loop
 returns c =
@@ -91,9 +97,9 @@ returns c =
     let bits = start .args .bits .now in
     let stop = start .args .stop in
     let w = window .window-in .ensures in
-    let whole = rw (next bits (at .loop .i) (c .before .before .before .before .before .loop-test .taken)) at (at .loop .inv .7) in
+    let whole = rw (next bits (at .loop .i) (c .before .before .before .before .before .loop-test .taken)) at (at .loop .inv .4 .2) in
     let no-bit : 2 ≤ getD bits (at .loop .i) 0 = omega (arith, c .before .before .before .if1 .taken) in
-    rw (c .counted .ensures, c .before .kept .ensures, c .before .before .number .ensures, put-back (at .loop .lock) _ _ (at .loop .inv .2 .0))
+    rw (c .counted .ensures, c .before .kept .ensures, passed-is _ _ _ _ _ (at .loop .inv .4 .1), c .before .before .number .ensures, put-back (at .loop .lock) _ _ (at .loop .inv .2 .0))
     (sym (on-stops stop (at .loop .i) _ _ _ _ _ _ no-bit) ∙ whole ∙ entered (start .args .state) (start .pre .0) (lock .lock-in .ensures) (w .0) (w .1) stop bits)
 
 join-requires : tie.Need-join-requires Inv-loop μ-loop
@@ -104,11 +110,6 @@ behind-first-requires c κs = (c .if2 .taken, c .before .before .join .ensures .
 
 is-passed-over-requires : tie.Need-is-passed-over-requires Inv-loop μ-loop
 is-passed-over-requires c κs = behind-first-requires (c .before) κs
-
-add-passed : tie.Need-add-passed Inv-loop μ-loop
-add-passed c =
-    let at = c .before .before .before .before .before .before .before .before .before in
-    omega (arith, at .loop .inv .0, at .loop .inv .6, at .before .before .before .before .pre .1)
 
 move-on-requires : tie.Need-move-on-requires Inv-loop μ-loop
 move-on-requires c κs = c .before .before .behind-first .ensures
@@ -126,7 +127,8 @@ add-good : tie.Need-add-good Inv-loop μ-loop
 add-good c =
     let judge = c .before in
     let at = judge .before .before .before .before .before .before .before .before .before .before .before in
-    omega (arith, judged-small [] _ _ _ (judge .judge .ensures) .good, at .loop .inv .0, at .loop .inv .4, at .before .before .before .before .pre .1)
+    let start = at .before .before .before .before in
+    omega (arith, counts-one _ _ (judge .judge .ensures), at .loop .inv .4 .1, at .loop .inv .0, start .pre .1, few (start .args .state) (start .pre .0), at .before .window-in .ensures .0)
 
 cast-bad : tie.Need-cast-bad Inv-loop μ-loop
 cast-bad c = search needs
@@ -135,7 +137,8 @@ add-bad : tie.Need-add-bad Inv-loop μ-loop
 add-bad c =
     let judge = c .before .before in
     let at = judge .before .before .before .before .before .before .before .before .before .before .before in
-    omega (arith, judged-small [] _ _ _ (judge .judge .ensures) .bad, at .loop .inv .0, at .loop .inv .5, at .before .before .before .before .pre .1)
+    let start = at .before .before .before .before in
+    omega (arith, counts-one _ _ (judge .judge .ensures), at .loop .inv .4 .1, at .loop .inv .0, start .pre .1, few (start .args .state) (start .pre .0), at .before .window-in .ensures .0)
 
 empty-requires : tie.Need-empty-requires Inv-loop μ-loop
 empty-requires c κs = search needs
@@ -153,7 +156,17 @@ kept-requires-2 : tie.Need-kept-requires-2 Inv-loop μ-loop
 kept-requires-2 c κs = let e = c .before .before .empty .ensures in (omega (arith, e .0), e .2)
 
 counted-requires-2 : tie.Need-counted-requires-2 Inv-loop μ-loop
-counted-requires-2 c κs = search needs
+counted-requires-2 c κs =
+    let end = c .before .before in
+    let judge = end .before .before .before .before .before in
+    let joined = judge .before .before .before .before .before .before .before in
+    let at = joined .before .before .before .before in
+    let start = at .before .before .before .before in
+    let w = at .before .window-in .ensures .0 in
+    let filled = judge .before .before .before .before .before .if2 .taken in (
+      rw (c .kept2 .ensures) (omega (arith, end .before .empty .ensures .0, counts-one _ _ (judge .judge .ensures), at .loop .inv .4 .1, joined .join .ensures .0, filled)),
+      omega (arith, at .loop .inv .0, joined .before .before .before .loop-test .taken, start .pre .1, w, few (start .args .state) (start .pre .0)),
+    )
 
 returns-2 : tie.Need-returns-2 Inv-loop μ-loop
 returns-2 c =
@@ -176,10 +189,12 @@ returns-2 c =
     let j = judge .judge .result in
     let e = judge .judge .ensures ∙ ap (judgedBy l) (judge .before .read-by .ensures ∙ reads (v .bits) _ (f .0) (over .before .behind-first .ensures)) in
     let none = ap (λ (j : Judged). j .passed) e ∙ not-over l _ _ (over .is-passed-over .ensures) (judge .before .before .if3 .left) in
-    let whole = rw (next bits (at .loop .i) (joined .before .before .before .loop-test .taken)) at (at .loop .inv .7) in
+    let whole = rw (next bits (at .loop .i) (joined .before .before .before .loop-test .taken)) at (at .loop .inv .4 .2) in
     let change = stopped stop (sameLock (l .mode) (j .lock .mode)) (end .ends .result) (end .ends .ensures) (c .before .before .if4 .taken) in
     let nothing = end .before .empty .ensures in
-    rw (c .counted2 .ensures, c .before .kept2 .ensures, put-back (j .lock) _ _ (nothing .2 .0), nothing .0, nothing .1)
+    let made : MadeUp (at .before .window-in .result .waiting + (at .loop .i + 1)) (at .loop .good + j .good) (at .loop .bad + j .bad) (at .loop .inv .4 .0) (end .before .empty .result .waiting) =
+    omega (arith, at .loop .inv .4 .1, grown .0, full .if2 .taken, counts-one _ _ (judge .judge .ensures), none, nothing .0) in
+    rw (c .counted2 .ensures, c .before .kept2 .ensures, passed-is _ _ _ _ _ made, put-back (j .lock) _ _ (nothing .2 .0), nothing .0, nothing .1)
     (sym (ends-here stop (at .loop .i) _ _ _ _ _ b l _ _ (v .bits) (grown .1) (sym (grown .0) ∙ full .if2 .taken) j e none (change .0) (change .1))
     ∙ whole ∙ entered (start .args .state) (start .pre .0) (lock .lock-in .ensures) (window .0) (window .1) stop bits)
 
@@ -203,7 +218,7 @@ loop-again c =
     let b : getD bits (at .loop .i) 0 < 2 = omega (arith, joined .before .if1 .left) in
     let test = joined .before .before .before .loop-test .taken in
     let here : at .loop .i + 1 ≤ length bits = omega (arith, test) in
-    let whole = rw (next bits (at .loop .i) test) at (inv .7) in
+    let whole = rw (next bits (at .loop .i) test) at (inv .4 .2) in
     ⊎-elim
     (λ o.
     let moved = o .4 .ensures in (
@@ -211,18 +226,18 @@ loop-again c =
       omega (arith, ap waiting (o .6), moved .0),
       subst Turned (sym (o .6)) (moved .2),
       rw (o .5) (inv .3),
-      omega (arith, o .7, inv .4),
-      omega (arith, o .8, inv .5),
-      omega (arith, o .9, inv .6),
-      goes-same stop _ _ (o .5) (ap waiting (o .6) ∙ moved .0) (ap number (o .6) ∙ moved .1) (o .7) (o .8) (o .9)
-          ∙ sym (goes-over stop (at .loop .i) _ _ _ _ _ b l _ _ (v .bits) (grown .1) (sym (grown .0) ∙ o .0 .taken) (passedOver l) (is-over l _ _ (o .2 .ensures) (inv .3) (o .3 .taken)) refl) ∙ whole,
+      (
+        inv .4 .0 + 1,
+        omega (arith, inv .4 .1, o .7, o .8, ap waiting (o .6), moved .0, grown .0, o .0 .taken),
+        goes-same stop _ _ _ (o .5) (ap waiting (o .6) ∙ moved .0) (ap number (o .6) ∙ moved .1) (o .7) (o .8)
+            ∙ sym (goes-over stop (at .loop .i) _ _ _ _ _ b l _ _ (v .bits) (grown .1) (sym (grown .0) ∙ o .0 .taken) (passedOver l) (is-over l _ _ (o .2 .ensures) (inv .3) (o .3 .taken)) refl) ∙ whole,
+      ),
     ))
     (⊎-elim
     (λ u.
     let f = fifty v (u .0 .taken) (grown .2) in
     let j = u .5 .result in
     let e = u .5 .ensures ∙ ap (judgedBy l) (u .4 .ensures ∙ reads (v .bits) _ (f .0) (u .1 .ensures)) in
-    let small = judged-small [] _ _ _ (u .5 .ensures) in
     let none = ap (λ (j : Judged). j .passed) e ∙ not-over l _ _ (u .2 .ensures) (u .3 .left) in
     let same = went-on stop (sameLock (l .mode) (j .lock .mode)) (u .10 .result) (u .10 .ensures) (u .11 .left) in
     let nothing = u .9 .ensures in (
@@ -230,22 +245,24 @@ loop-again c =
       omega (arith, ap waiting (u .13), nothing .0),
       subst Turned (sym (u .13)) (nothing .2),
       rw (u .12, e) (judged-proper l _ (inv .3)),
-      omega (arith, u .14, small .good, inv .4),
-      omega (arith, u .15, small .bad, inv .5),
-      omega (arith, u .16, inv .6),
-      goes-same stop _ _ (u .12) (ap waiting (u .13) ∙ nothing .0) (ap number (u .13) ∙ nothing .1) (u .14) (u .15) (u .16)
-          ∙ sym (goes-on stop (at .loop .i) _ _ _ _ _ b l _ _ (v .bits) (grown .1) (sym (grown .0) ∙ u .0 .taken) j e none same) ∙ whole,
+      (
+        inv .4 .0,
+        omega (arith, inv .4 .1, u .14, u .15, ap waiting (u .13), nothing .0, grown .0, u .0 .taken, counts-one _ _ (u .5 .ensures), none),
+        goes-same stop _ _ _ (u .12) (ap waiting (u .13) ∙ nothing .0) (ap number (u .13) ∙ nothing .1) (u .14) (u .15)
+            ∙ sym (goes-on stop (at .loop .i) _ _ _ _ _ b l _ _ (v .bits) (grown .1) (sym (grown .0) ∙ u .0 .taken) j e none same) ∙ whole,
+      ),
     ))
     (λ k. (
       here,
       omega (arith, ap waiting (k .2), grown .0, k .0 .left, inv .1),
       subst Turned (sym (k .2)) (grown .2),
       rw (k .1) (inv .3),
-      omega (arith, k .3, inv .4),
-      omega (arith, k .4, inv .5),
-      omega (arith, k .5, inv .6),
-      goes-same stop _ _ (k .1) (ap waiting (k .2) ∙ grown .0) (ap number (k .2)) (k .3) (k .4) (k .5)
-          ∙ sym (more-wait stop (at .loop .i) _ _ _ _ _ b l _ _ (v .bits) (grown .1) (omega (arith, grown .0, k .0 .left, inv .1))) ∙ whole,
+      (
+        inv .4 .0,
+        omega (arith, inv .4 .1, k .3, k .4, ap waiting (k .2), grown .0),
+        goes-same stop _ _ _ (k .1) (ap waiting (k .2) ∙ grown .0) (ap number (k .2)) (k .3) (k .4)
+            ∙ sym (more-wait stop (at .loop .i) _ _ _ _ _ b l _ _ (v .bits) (grown .1) (omega (arith, grown .0, k .0 .left, inv .1))) ∙ whole,
+      ),
     )))
     (c .if2 .came)
 
@@ -253,7 +270,11 @@ kept-requires-3 : tie.Need-kept-requires-3 Inv-loop μ-loop
 kept-requires-3 c κs = let inv = c .before .loop .inv in (omega (arith, inv .1), inv .2)
 
 counted-requires-3 : tie.Need-counted-requires-3 Inv-loop μ-loop
-counted-requires-3 c κs = search needs
+counted-requires-3 c κs =
+    let at = c .before .before in
+    let start = at .before .before .before .before in
+    let w = at .before .window-in .ensures .0 in
+    (rw (c .kept3 .ensures) (omega (arith, at .loop .inv .4 .1)), omega (arith, at .loop .inv .0, start .pre .1, w, few (start .args .state) (start .pre .0)))
 
 returns-3 : tie.Need-returns-3 Inv-loop μ-loop
 returns-3 c =
@@ -263,8 +284,8 @@ returns-3 c =
     let bits = start .args .bits .now in
     let stop = start .args .stop in
     let window = at .before .window-in .ensures in
-    let whole = rw (drop-of-length-le bits (c .before .before .loop-test .left)) at (at .loop .inv .7) in
-    rw (c .counted3 .ensures, c .before .kept3 .ensures, put-back (at .loop .lock) _ _ (at .loop .inv .2 .0))
+    let whole = rw (drop-of-length-le bits (c .before .before .loop-test .left)) at (at .loop .inv .4 .2) in
+    rw (c .counted3 .ensures, c .before .kept3 .ensures, passed-is _ _ _ _ _ (at .loop .inv .4 .1), put-back (at .loop .lock) _ _ (at .loop .inv .2 .0))
     (sym (on-done stop (at .loop .i) _ _ _ _) ∙ whole ∙ entered (start .args .state) (start .pre .0) (lock .lock-in .ensures) (window .0) (window .1) stop bits)
 
 pub feed-all-spec : {M : Type 1} → statement M
@@ -284,7 +305,6 @@ feed-all-spec =
     join-requires
     behind-first-requires
     is-passed-over-requires
-    add-passed
     move-on-requires
     read-by-requires
     judge-requires
