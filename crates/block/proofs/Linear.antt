@@ -33,7 +33,7 @@ reduce-xor n m hn hm =
     ∙ xor-swap n m (n / 8192 * generator) (m / 8192 * generator) ∙ sym (ap₂ bitXor (reduce-is n hn) (reduce-is m hm))
 
 -- the x^13 of the generator takes off the x^13 that came up
-reduce-lt : (n : ℕ) → n < 16384 → reduce n < 8192
+pub reduce-lt : (n : ℕ) → n < 16384 → reduce n < 8192
 reduce-lt n h =
     let e : bitXor n (n / 8192 * generator) / 8192 ≡ 0 =
     xor-shr n (n / 8192 * generator) 13 ∙ on-bit (λ t. bitXor t (t * generator / 8192) ≡ 0) refl refl (n / 8192) (omega arith) in

@@ -224,13 +224,6 @@ bitsOf-val k bs h l =
 
 -- ---- the division
 
-pub rem-first : (k n r : ℕ) → 0 < k → remainderFrom r (bitsOf k n) ≡ remainderFrom (stepBit r (n / 2 ^ (k - 1) % 2)) (bitsOf (k - 1) n)
-unfolding remainderFrom
-rem-first zero n r h = absurd (omega arith)
-rem-first (suc k) n r h =
-    let e : k ≡ suc k - 1 = omega arith in
-    ap (remainderFrom r) (bitsOf-first k n) ∙ ap (λ (j : ℕ). remainderFrom (stepBit r (n / 2 ^ j % 2)) (bitsOf j n)) e
-
 pub rem-append : (xs ys : List ℕ) (r : ℕ) → remainderFrom r (xs ++ ys) ≡ remainderFrom (remainderFrom r xs) ys
 unfolding remainderFrom
 rem-append [] ys r = refl
@@ -273,13 +266,13 @@ xors-zeros (b ∷ bs) = ap (λ (l : List ℕ). b ∷ l) (xors-zeros bs)
 pub rem-val : (bs : List ℕ) → Bits bs → length bs ≤ 13 → remainder bs ≡ value bs
 rem-val bs h l = rem-small bs 0 (omega (arith, val-lt bs h, pow-mono l))
 
--- the first thirteen bits of a number's lowest fill the register as they are
-pub rem-filled : (k n : ℕ) → remainder (bitsOf (13 + k) n) ≡ remainderFrom (n / 2 ^ k % 8192) (bitsOf k n)
-rem-filled k n =
+-- the first thirteen bits fill the register as they are
+pub rem-filled : (k n : ℕ) → n / 2 ^ k < 8192 → remainder (bitsOf (13 + k) n) ≡ remainderFrom (n / 2 ^ k) (bitsOf k n)
+rem-filled k n h =
     let first : List ℕ = bitsOf 13 (n / 2 ^ k) in
     ap remainder (bitsOf-cut 13 k n) ∙ rem-append first (bitsOf k n) 0
     ∙ ap (λ (r : ℕ). remainderFrom r (bitsOf k n))
-    (rem-val first (bits-bitsOf 13 (n / 2 ^ k)) (omega (arith, length-bitsOf 13 (n / 2 ^ k))) ∙ val-mod 13 (n / 2 ^ k))
+    (rem-val first (bits-bitsOf 13 (n / 2 ^ k)) (omega (arith, length-bitsOf 13 (n / 2 ^ k))) ∙ val-bitsOf 13 (n / 2 ^ k) h)
 
 -- what the register holds and what the string brings, apart
 pub rem-split : (bs : List ℕ) (r : ℕ) → r < 8192 → Bits bs → remainderFrom r bs ≡ bitXor (remainderFrom r (zeros (length bs))) (remainder bs)
