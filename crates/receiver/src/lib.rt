@@ -87,7 +87,7 @@ pub fn fresh_packed() -> PackedState
     packed_of(locking::fresh_lock(), 0, 0)
 }
 
-// Where a run ends. Each block took fifty of the bits that waited before and were fed; what does not wait was passed over.
+// Where a run ends. Of the bits that had waited and were fed each block took fifty; the others wait or were passed over.
 fn counted(refusal: u8, good: u32, bad: u32, waited: u32, fed: usize, state: PackedState) -> Stretch
     requires { ⌜ (50 * (good + bad) + state .waiting ≤ waited + fed) × (waited + fed < 2 ^ 32) ⌝ }
     ensures { λ r. ⌜ r ≡ withFed (endedPacked refusal good bad (waited + fed - 50 * (good + bad) - state .waiting) state) fed ⌝ }

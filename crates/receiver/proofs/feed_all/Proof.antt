@@ -5,7 +5,7 @@ use borrow.Author.Needs.{needs}
 use mathlib.Core.Bool.{true}
 use mathlib.Core.Logic.{⊎-elim}
 use mathlib.Core.Path.{_≡_, refl, sym, ap, _∙_, subst}
-use Prim.Native.Nat.{ℕ, _+_, _-_, _*_, _≤_, _<_}
+use Prim.Native.Nat.{ℕ, _+_, _-_, _*_, _^_, _≤_, _<_}
 use native.Mathlib.Omega.{arith}
 use lib.ListN.{length, getD, drop, drop-of-length-le}
 use Rattle.block.proofs.Strings.{next}
@@ -42,7 +42,7 @@ number w = w .bits
 
 abbrev Inv-loop : tie.InvT-loop
 Inv-loop bits stop lock₀ window₀ waited good₀ bad₀ i₀ lock window good bad i =
-    (i ≤ length bits) × (window .waiting < 50) × Turned window × (lockProper lock ≡ true)
+    (i ≤ length bits) × (window .waiting < 50) × Turned window × (lockProper lock ≡ true) × (waited + length bits < 2 ^ 32)
     × ((passed : ℕ) × MadeUp (waited + i) good bad passed (window .waiting)
     × (goesOn stop (drop i bits) i good bad passed (held lock window) ≡ goesOn stop bits 0 0 0 0 (held lock₀ window₀)))
 
@@ -69,6 +69,7 @@ loop-holds c =
       omega (arith, w .0, few p (start .pre .0)),
       w .2,
       rw (lock .lock-in .ensures) (bits-and-lock _ (proper-unpacked p (start .pre .0) .proper) .1),
+      omega (arith, w .0, few p (start .pre .0), start .pre .1),
       (0, omega arith, refl),
     )
 
@@ -83,10 +84,8 @@ kept-requires c κs = let inv = c .before .before .before .before .loop .inv in 
 
 counted-requires : tie.Need-counted-requires Inv-loop μ-loop
 counted-requires c κs =
-    let at = c .before .before .before .before .before in
-    let start = at .before .before .before .before in
-    let w = at .before .window-in .ensures .0 in
-    (rw (c .kept .ensures) (omega (arith, at .loop .inv .4 .1)), omega (arith, at .loop .inv .0, start .pre .1, w, few (start .args .state) (start .pre .0)))
+    let inv = c .before .before .before .before .before .loop .inv in
+    (rw (c .kept .ensures) (omega (arith, inv .5 .1)), omega (arith, inv .0, inv .4))
 
 returns : tie.Need-returns Inv-loop μ-loop
 returns c =
@@ -97,9 +96,9 @@ returns c =
     let bits = start .args .bits .now in
     let stop = start .args .stop in
     let w = window .window-in .ensures in
-    let whole = rw (next bits (at .loop .i) (c .before .before .before .before .before .loop-test .taken)) at (at .loop .inv .4 .2) in
+    let whole = rw (next bits (at .loop .i) (c .before .before .before .before .before .loop-test .taken)) at (at .loop .inv .5 .2) in
     let no-bit : 2 ≤ getD bits (at .loop .i) 0 = omega (arith, c .before .before .before .if1 .taken) in
-    rw (c .counted .ensures, c .before .kept .ensures, passed-is _ _ _ _ _ (at .loop .inv .4 .1), c .before .before .number .ensures, put-back (at .loop .lock) _ _ (at .loop .inv .2 .0))
+    rw (c .counted .ensures, c .before .kept .ensures, passed-is _ _ _ _ _ (at .loop .inv .5 .1), c .before .before .number .ensures, put-back (at .loop .lock) _ _ (at .loop .inv .2 .0))
     (sym (on-stops stop (at .loop .i) _ _ _ _ _ _ no-bit) ∙ whole ∙ entered (start .args .state) (start .pre .0) (lock .lock-in .ensures) (w .0) (w .1) stop bits)
 
 join-requires : tie.Need-join-requires Inv-loop μ-loop
@@ -126,9 +125,8 @@ cast-good c = search needs
 add-good : tie.Need-add-good Inv-loop μ-loop
 add-good c =
     let judge = c .before in
-    let at = judge .before .before .before .before .before .before .before .before .before .before .before in
-    let start = at .before .before .before .before in
-    omega (arith, counts-one _ _ (judge .judge .ensures), at .loop .inv .4 .1, at .loop .inv .0, start .pre .1, few (start .args .state) (start .pre .0), at .before .window-in .ensures .0)
+    let inv = judge .before .before .before .before .before .before .before .before .before .before .before .loop .inv in
+    omega (arith, counts-one _ _ (judge .judge .ensures), inv .0, inv .4, inv .5 .1)
 
 cast-bad : tie.Need-cast-bad Inv-loop μ-loop
 cast-bad c = search needs
@@ -136,9 +134,8 @@ cast-bad c = search needs
 add-bad : tie.Need-add-bad Inv-loop μ-loop
 add-bad c =
     let judge = c .before .before in
-    let at = judge .before .before .before .before .before .before .before .before .before .before .before in
-    let start = at .before .before .before .before in
-    omega (arith, counts-one _ _ (judge .judge .ensures), at .loop .inv .4 .1, at .loop .inv .0, start .pre .1, few (start .args .state) (start .pre .0), at .before .window-in .ensures .0)
+    let inv = judge .before .before .before .before .before .before .before .before .before .before .before .loop .inv in
+    omega (arith, counts-one _ _ (judge .judge .ensures), inv .0, inv .4, inv .5 .1)
 
 empty-requires : tie.Need-empty-requires Inv-loop μ-loop
 empty-requires c κs = search needs
@@ -159,13 +156,12 @@ counted-requires-2 : tie.Need-counted-requires-2 Inv-loop μ-loop
 counted-requires-2 c κs =
     let end = c .before .before in
     let judge = end .before .before .before .before .before in
-    let joined = judge .before .before .before .before .before .before .before in
+    let full = judge .before .before .before .before .before in
+    let joined = full .before .before in
     let at = joined .before .before .before .before in
-    let start = at .before .before .before .before in
-    let w = at .before .window-in .ensures .0 in
-    let filled = judge .before .before .before .before .before .if2 .taken in (
-      rw (c .kept2 .ensures) (omega (arith, end .before .empty .ensures .0, counts-one _ _ (judge .judge .ensures), at .loop .inv .4 .1, joined .join .ensures .0, filled)),
-      omega (arith, at .loop .inv .0, joined .before .before .before .loop-test .taken, start .pre .1, w, few (start .args .state) (start .pre .0)),
+    let inv = at .loop .inv in (
+      rw (c .kept2 .ensures) (omega (arith, end .before .empty .ensures .0, counts-one _ _ (judge .judge .ensures), inv .5 .1, joined .join .ensures .0, full .if2 .taken)),
+      omega (arith, joined .before .before .before .loop-test .taken, inv .4),
     )
 
 returns-2 : tie.Need-returns-2 Inv-loop μ-loop
@@ -189,11 +185,11 @@ returns-2 c =
     let j = judge .judge .result in
     let e = judge .judge .ensures ∙ ap (judgedBy l) (judge .before .read-by .ensures ∙ reads (v .bits) _ (f .0) (over .before .behind-first .ensures)) in
     let none = ap (λ (j : Judged). j .passed) e ∙ not-over l _ _ (over .is-passed-over .ensures) (judge .before .before .if3 .left) in
-    let whole = rw (next bits (at .loop .i) (joined .before .before .before .loop-test .taken)) at (at .loop .inv .4 .2) in
+    let whole = rw (next bits (at .loop .i) (joined .before .before .before .loop-test .taken)) at (at .loop .inv .5 .2) in
     let change = stopped stop (sameLock (l .mode) (j .lock .mode)) (end .ends .result) (end .ends .ensures) (c .before .before .if4 .taken) in
     let nothing = end .before .empty .ensures in
-    let made : MadeUp (at .before .window-in .result .waiting + (at .loop .i + 1)) (at .loop .good + j .good) (at .loop .bad + j .bad) (at .loop .inv .4 .0) (end .before .empty .result .waiting) =
-    omega (arith, at .loop .inv .4 .1, grown .0, full .if2 .taken, counts-one _ _ (judge .judge .ensures), none, nothing .0) in
+    let made : MadeUp (at .before .window-in .result .waiting + (at .loop .i + 1)) (at .loop .good + j .good) (at .loop .bad + j .bad) (at .loop .inv .5 .0) (end .before .empty .result .waiting) =
+    omega (arith, at .loop .inv .5 .1, grown .0, full .if2 .taken, counts-one _ _ (judge .judge .ensures), none, nothing .0) in
     rw (c .counted2 .ensures, c .before .kept2 .ensures, passed-is _ _ _ _ _ made, put-back (j .lock) _ _ (nothing .2 .0), nothing .0, nothing .1)
     (sym (ends-here stop (at .loop .i) _ _ _ _ _ b l _ _ (v .bits) (grown .1) (sym (grown .0) ∙ full .if2 .taken) j e none (change .0) (change .1))
     ∙ whole ∙ entered (start .args .state) (start .pre .0) (lock .lock-in .ensures) (window .0) (window .1) stop bits)
@@ -218,7 +214,7 @@ loop-again c =
     let b : getD bits (at .loop .i) 0 < 2 = omega (arith, joined .before .if1 .left) in
     let test = joined .before .before .before .loop-test .taken in
     let here : at .loop .i + 1 ≤ length bits = omega (arith, test) in
-    let whole = rw (next bits (at .loop .i) test) at (inv .4 .2) in
+    let whole = rw (next bits (at .loop .i) test) at (inv .5 .2) in
     ⊎-elim
     (λ o.
     let moved = o .4 .ensures in (
@@ -226,9 +222,10 @@ loop-again c =
       omega (arith, ap waiting (o .6), moved .0),
       subst Turned (sym (o .6)) (moved .2),
       rw (o .5) (inv .3),
+      inv .4,
       (
-        inv .4 .0 + 1,
-        omega (arith, inv .4 .1, o .7, o .8, ap waiting (o .6), moved .0, grown .0, o .0 .taken),
+        inv .5 .0 + 1,
+        omega (arith, inv .5 .1, o .7, o .8, ap waiting (o .6), moved .0, grown .0, o .0 .taken),
         goes-same stop _ _ _ (o .5) (ap waiting (o .6) ∙ moved .0) (ap number (o .6) ∙ moved .1) (o .7) (o .8)
             ∙ sym (goes-over stop (at .loop .i) _ _ _ _ _ b l _ _ (v .bits) (grown .1) (sym (grown .0) ∙ o .0 .taken) (passedOver l) (is-over l _ _ (o .2 .ensures) (inv .3) (o .3 .taken)) refl) ∙ whole,
       ),
@@ -245,9 +242,10 @@ loop-again c =
       omega (arith, ap waiting (u .13), nothing .0),
       subst Turned (sym (u .13)) (nothing .2),
       rw (u .12, e) (judged-proper l _ (inv .3)),
+      inv .4,
       (
-        inv .4 .0,
-        omega (arith, inv .4 .1, u .14, u .15, ap waiting (u .13), nothing .0, grown .0, u .0 .taken, counts-one _ _ (u .5 .ensures), none),
+        inv .5 .0,
+        omega (arith, inv .5 .1, u .14, u .15, ap waiting (u .13), nothing .0, grown .0, u .0 .taken, counts-one _ _ (u .5 .ensures), none),
         goes-same stop _ _ _ (u .12) (ap waiting (u .13) ∙ nothing .0) (ap number (u .13) ∙ nothing .1) (u .14) (u .15)
             ∙ sym (goes-on stop (at .loop .i) _ _ _ _ _ b l _ _ (v .bits) (grown .1) (sym (grown .0) ∙ u .0 .taken) j e none same) ∙ whole,
       ),
@@ -257,9 +255,10 @@ loop-again c =
       omega (arith, ap waiting (k .2), grown .0, k .0 .left, inv .1),
       subst Turned (sym (k .2)) (grown .2),
       rw (k .1) (inv .3),
+      inv .4,
       (
-        inv .4 .0,
-        omega (arith, inv .4 .1, k .3, k .4, ap waiting (k .2), grown .0),
+        inv .5 .0,
+        omega (arith, inv .5 .1, k .3, k .4, ap waiting (k .2), grown .0),
         goes-same stop _ _ _ (k .1) (ap waiting (k .2) ∙ grown .0) (ap number (k .2)) (k .3) (k .4)
             ∙ sym (more-wait stop (at .loop .i) _ _ _ _ _ b l _ _ (v .bits) (grown .1) (omega (arith, grown .0, k .0 .left, inv .1))) ∙ whole,
       ),
@@ -271,10 +270,8 @@ kept-requires-3 c κs = let inv = c .before .loop .inv in (omega (arith, inv .1)
 
 counted-requires-3 : tie.Need-counted-requires-3 Inv-loop μ-loop
 counted-requires-3 c κs =
-    let at = c .before .before in
-    let start = at .before .before .before .before in
-    let w = at .before .window-in .ensures .0 in
-    (rw (c .kept3 .ensures) (omega (arith, at .loop .inv .4 .1)), omega (arith, at .loop .inv .0, start .pre .1, w, few (start .args .state) (start .pre .0)))
+    let inv = c .before .before .loop .inv in
+    (rw (c .kept3 .ensures) (omega (arith, inv .5 .1)), omega (arith, inv .0, inv .4))
 
 returns-3 : tie.Need-returns-3 Inv-loop μ-loop
 returns-3 c =
@@ -284,8 +281,8 @@ returns-3 c =
     let bits = start .args .bits .now in
     let stop = start .args .stop in
     let window = at .before .window-in .ensures in
-    let whole = rw (drop-of-length-le bits (c .before .before .loop-test .left)) at (at .loop .inv .4 .2) in
-    rw (c .counted3 .ensures, c .before .kept3 .ensures, passed-is _ _ _ _ _ (at .loop .inv .4 .1), put-back (at .loop .lock) _ _ (at .loop .inv .2 .0))
+    let whole = rw (drop-of-length-le bits (c .before .before .loop-test .left)) at (at .loop .inv .5 .2) in
+    rw (c .counted3 .ensures, c .before .kept3 .ensures, passed-is _ _ _ _ _ (at .loop .inv .5 .1), put-back (at .loop .lock) _ _ (at .loop .inv .2 .0))
     (sym (on-done stop (at .loop .i) _ _ _ _) ∙ whole ∙ entered (start .args .state) (start .pre .0) (lock .lock-in .ensures) (window .0) (window .1) stop bits)
 
 pub feed-all-spec : {M : Type 1} → statement M
