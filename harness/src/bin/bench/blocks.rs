@@ -19,7 +19,7 @@ const READERS: [Reader; 3] = [face::read_block, table::read, bitwise::read];
 const WRITERS: [Writer; 3] = [face::write_block, table::write, bitwise::write];
 
 pub const BLOCKS: usize = 300_000;
-pub const ROUNDS: usize = 60;
+pub const ROUNDS: usize = 150;
 
 pub fn measure() {
     println!("blocks: {BLOCKS}, best of {ROUNDS} rounds");

@@ -20,7 +20,7 @@ pub const BY_HAND: &str = "receive";
 const NAMES: [&str; 2] = ["product", "circuit"];
 
 const BITS: usize = 10_000_000;
-const ROUNDS: usize = 10;
+const ROUNDS: usize = 40;
 
 /// How much is read at once.
 const PIECE: usize = 1 << 16;

@@ -24,7 +24,7 @@ const PACKED_RUNNERS: [Runner<PackedState>; 3] =
     [face::run_packed, circuit::run, packed_table::run];
 
 const BITS: usize = 1_000_000;
-const ROUNDS: usize = 30;
+const ROUNDS: usize = 60;
 
 /// The numbers of bits over which the cost must be linear.
 const LENGTHS: [usize; 4] = [100_000, 1_000_000, 10_000_000, 100_000_000];
