@@ -5,7 +5,7 @@ use borrow.Author.Needs.{needs}
 use mathlib.Core.Bool.{true}
 use mathlib.Core.Logic.{⊎-elim}
 use mathlib.Core.Path.{_≡_, refl, sym, ap, _∙_, subst}
-use Prim.Native.Nat.{ℕ, _+_, _-_, _*_, _^_, _≤_, _<_}
+use Prim.Native.Nat.{ℕ, _+_, _-_, _*_, _≤_, _<_}
 use native.Mathlib.Omega.{arith}
 use lib.ListN.{length, getD, drop, drop-of-length-le}
 use Rattle.block.proofs.Strings.{next}
@@ -42,7 +42,7 @@ number w = w .bits
 
 abbrev Inv-loop : tie.InvT-loop
 Inv-loop bits stop lock₀ window₀ waited good₀ bad₀ i₀ lock window good bad i =
-    (i ≤ length bits) × (window .waiting < 50) × Turned window × (lockProper lock ≡ true) × (waited + length bits < 2 ^ 32)
+    (i ≤ length bits) × (window .waiting < 50) × Turned window × (lockProper lock ≡ true) × (waited + length bits ≤ 65585)
     × ((passed : ℕ) × MadeUp (waited + i) good bad passed (window .waiting)
     × (goesOn stop (drop i bits) i good bad passed (held lock window) ≡ goesOn stop bits 0 0 0 0 (held lock₀ window₀)))
 
