@@ -55,6 +55,7 @@ module _ (k n : ℕ) where
               ∙ sym (ap (remainderFrom (n / 2 ^ suc k)) (bitsOf-first k n) ∙ ap (λ (q : ℕ). remainderFrom (reduce q) (bitsOf k n)) top),
         )
 
+-- the same, by the bits that stood behind before the turn
 pub along : (b n m : ℕ) → 0 < b → n / 2 ^ b < 8192 → m ≡ fedBack (b - 1) n
     → (m / 2 ^ (b - 1) < 8192) × (remainderFrom (m / 2 ^ (b - 1)) (bitsOf (b - 1) m) ≡ remainderFrom (n / 2 ^ b) (bitsOf b n))
 along zero n m p h e = absurd (omega arith)

@@ -103,10 +103,6 @@ unfolding power
 power-lt x zero = omega arith
 power-lt x (suc n) = times-lt x (power x n)
 
-pub inverse-lt : (y : ℕ) → inverseOf y < 16
-unfolding inverseOf
-inverse-lt y = power-lt y 14
-
 -- of powers and of the inverse too only the lowest four bits count
 power-low : (x n : ℕ) → power (x % 16) n ≡ power x n
 unfolding power

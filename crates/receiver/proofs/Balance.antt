@@ -26,6 +26,7 @@ use Rattle.receiver.proofs.StaysProper.{room}
 abbrev pub MadeUp : ℕ → ℕ → ℕ → ℕ → ℕ → Type 0
 MadeUp n good bad passed waiting = n ≡ 50 * (good + bad) + passed + waiting
 
+-- so a step makes up the bits that waited before it, and its own
 abbrev Stepped : ℕ → Step → Type 0
 Stepped n t = MadeUp n (t .good) (t .bad) (t .passed) (t .next .waiting)
 

@@ -89,10 +89,6 @@ module _ (s : State) (xs ys : List ℕ) (p : Proper s) (h : Bits xs) (limit : le
   both-are : runOf s (xs ++ ys) ≡ onwards ys (runOf s xs)
   both-are = run-is s (xs ++ ys) limit (p .proper) ∙ from-append xs ys 0 0 0 s h ∙ ap (onwards ys) (sym first-is)
 
-  -- the run of bits is not refused
-  pub first-taken : runOf s xs .counts .refusal ≡ 0
-  first-taken = rw first-is (from-bits xs 0 0 0 s h .0)
-
   -- a run of two strings is the run of the first and then of the second, with the counts of both
   pub together : runOf s (xs ++ ys) ≡ counted (runOf s xs .counts .good) (runOf s xs .counts .bad) (runOf s xs .counts .passed) (runOf (runOf s xs .state) ys)
   together =
