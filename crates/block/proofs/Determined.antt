@@ -1,6 +1,7 @@
 -- Two results that a contract allows for the same input are equal, lent bytes included. Each is said of the contract as the check reads it.
 -- Assumes nothing.
-use mathlib.Core.Path.{_≡_, sym, _∙_}
+use mathlib.Core.Path.{_≡_, sym, ap₂, _∙_}
+use Prim.Native.Nat.{ℕ}
 use denote.Ref.{now}
 use Rattle.refusal.proofs.Determined.{Determined, Leaves}
 use Rattle.block.proofs.choose.Reads as choose
@@ -59,5 +60,5 @@ choose-between-determined κs a x y s t p q = p ∙ sym q
 pub choose-determined : (κs : _) (a : _) (x y : _) (s t : _) → choose.Post κs a x s → choose.Post κs a y t → (now x ≡ now y) × (x .ptr ≡ y .ptr)
 choose-determined κs a x y s t p q = (p .0 ∙ sym (q .0), p .1 .1 .0 ∙ sym (q .1 .1 .0))
 
-pub choose-leaves : Leaves choose.Post (λ κs s. now (s .1 .1 .0))
-choose-leaves κs a x y s t p q = p .1 .1 .1 ∙ sym (q .1 .1 .1)
+pub choose-leaves : Leaves {X = ℕ × ℕ} choose.Post (λ κs s. (now (s .1 .1 .0), now (s .1 .1 .1 .0)))
+choose-leaves κs a x y s t p q = ap₂ (λ (n r : ℕ). (n, r)) (p .1 .1 .1 .0 ∙ sym (q .1 .1 .1 .0)) (p .1 .1 .1 .1 ∙ sym (q .1 .1 .1 .1))

@@ -5,10 +5,11 @@ pub mod Along
 pub mod Polynomials
 pub mod Below
 pub mod CheckWord
+pub mod Inverted
 pub mod Reading
+pub mod Told
 pub mod RoundTrip
 pub mod Packing
 pub mod Stream
 pub mod Taken
-pub mod Inverted
 pub mod Determined

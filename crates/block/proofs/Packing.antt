@@ -51,14 +51,14 @@ module _ (s : List ℕ) where
       by true false k b = absurd (not-refused (sym (rw (k, b) at e)))
       by false bits k b = absurd (not-refused (sym (rw k at e)))
 
-  pub packs-not : (why : Refusal) → packOf s ≡ Refused why → readOf s ≡ read.Refused why
+  pub packs-not : (why : Refusal) → packOf s ≡ Refused why → readOf s ≡ read.Refused why 0
   unfolding packOf
   packs-not why e = by (eqb (length s) 50) (areBits s) refl refl
     where
-      by : (size bits : Bool) → eqb (length s) 50 ≡ size → areBits s ≡ bits → readOf s ≡ read.Refused why
+      by : (size bits : Bool) → eqb (length s) 50 ≡ size → areBits s ≡ bits → readOf s ≡ read.Refused why 0
       by true true k b = absurd (not-refused (rw (k, b) at e))
-      by true false k b = sym (not-a-bit s (eqb-true (length s) 50 k) b) ∙ ap (λ (p : Packed). read.Refused (reason p)) (rw (k, b) at e)
-      by false bits k b = sym (wrong-length s (eqb-false (length s) 50 k)) ∙ ap (λ (p : Packed). read.Refused (reason p)) (rw k at e)
+      by true false k b = sym (not-a-bit s (eqb-true (length s) 50 k) b) ∙ ap (λ (p : Packed). read.Refused (reason p) 0) (rw (k, b) at e)
+      by false bits k b = sym (wrong-length s (eqb-false (length s) 50 k)) ∙ ap (λ (p : Packed). read.Refused (reason p) 0) (rw k at e)
 
   -- fifty bits do pack, into fifty places of the number
   pub packs-bits : length s ≡ 50 → Bits s → packOf s ≡ Number (value s)

@@ -19,27 +19,28 @@ use Rattle.block.specs.Read.{readOf}
 use Rattle.block.specs.declared.Read.the-variants.{Block, Refused}
 use Rattle.block.proofs.Strings.{next, parts, are-bits, bits-are, bits-at, bits-take, bits-drop, bits-bitsOf, length-bitsOf, bitsOf-first, bitsOf-val, val-bitsOf, val-cons, val-lt, val-top, val-low}
 use Rattle.block.proofs.CheckWord.{check-none, none-check, good-rem}
+use Rattle.block.proofs.Inverted.{without}
 
 module _ (s : List ℕ) where
-  pub wrong-length : (length s ≡ 50 → ⊥) → Refused WrongLength ≡ readOf s
+  pub wrong-length : (length s ≡ 50 → ⊥) → Refused WrongLength 0 ≡ readOf s
   unfolding readOf
   wrong-length h = simp (ne-eqb (length s) 50 h)
 
   module _ (l : length s ≡ 50) where
-    pub not-a-bit : areBits s ≡ false → Refused NotABit ≡ readOf s
+    pub not-a-bit : areBits s ≡ false → Refused NotABit 0 ≡ readOf s
     unfolding readOf
     not-a-bit h = simp (eq-eqb (length s) 50 l, h)
 
     module _ (a : areBits s ≡ true) where
-      pub wrong-prefix : (prefixIn s ≡ 1 → ⊥) → Refused WrongPrefix ≡ readOf s
+      pub wrong-prefix : (prefixIn s ≡ 1 → ⊥) → Refused WrongPrefix 0 ≡ readOf s
       unfolding readOf
       wrong-prefix h = simp (eq-eqb (length s) 50 l, a, ne-eqb (prefixIn s) 1 h)
 
       module _ (p : prefixIn s ≡ 1) where
-        pub wrong-check-word : (remainder (drop 1 s) ≡ 0 → ⊥) → Refused WrongCheckWord ≡ readOf s
+        pub wrong-check-word : (remainder (drop 1 s) ≡ 0 → ⊥) → Refused WrongCheckWord (remainder (drop 1 s)) ≡ readOf s
         unfolding readOf
         wrong-check-word h =
-            simp (eq-eqb (length s) 50 l, a, eq-eqb (prefixIn s) 1 p, ne-eqb (value (checkIn s)) (checkOf (bodyIn s)) (λ e. h (check-none s l (are-bits s a) e)))
+            simp (eq-eqb (length s) 50 l, a, eq-eqb (prefixIn s) 1 p, ne-eqb (value (checkIn s)) (checkOf (bodyIn s)) (λ e. h (check-none s l (are-bits s a) e)), without s p)
 
         pub a-block : remainder (drop 1 s) ≡ 0 → Block (value (codeIn s)) (value (wordIn s)) ≡ readOf s
         unfolding readOf
@@ -93,7 +94,7 @@ module _ (s : List ℕ) (l : length s ≡ 50) (a : areBits s ≡ true) (n left :
     where
       by : (high none : Bool) → leb (2 ^ 49) n ≡ high → eqb left 0 ≡ none → readBy n left ≡ readOf s
       by false none k z = rw k (wrong-prefix s l a (λ p. omega (arith, e, p, leb-false (2 ^ 49) n k, prefix-in s l (are-bits s a))))
-      by true false k z = rw (k, z) (wrong-check-word s l a (prefix k) (λ q. eqb-false left 0 z (d ∙ q)))
+      by true false k z = rw (k, z) (ap (Refused WrongCheckWord) d ∙ wrong-check-word s l a (prefix k) (λ q. eqb-false left 0 z (d ∙ q)))
       by true true k z = rw (k, z) (said ∙ a-block s l a (prefix k) (sym d ∙ eqb-true left 0 z))
 
 pub number-reads : (n : ℕ) → n < 2 ^ 50 → readBy n (remainder (bitsOf 49 n)) ≡ readOf (bitsOf 50 n)
@@ -103,7 +104,7 @@ number-reads n h =
 
 -- ---- as one number
 
-pub wide : (n : ℕ) → 2 ^ 50 ≤ n → Refused NumberTooWide ≡ readPacked n
+pub wide : (n : ℕ) → 2 ^ 50 ≤ n → Refused NumberTooWide 0 ≡ readPacked n
 unfolding readPacked
 wide n h = rw (le-ltb n (2 ^ 50) h)
 

@@ -234,6 +234,10 @@ unfolding remainderFrom
 rem-lt [] r hr h = hr
 rem-lt (b ∷ bs) r hr h = rem-lt bs (stepBit r b) (step-lt r b hr (h .0)) (h .1)
 
+-- what a number's bits leave has thirteen bits
+pub thirteen : (k n : ℕ) {r : ℕ} → r ≡ remainder (bitsOf k n) → r < 8192
+thirteen k n e = rw e (rem-lt (bitsOf k n) 0 (omega arith) (bits-bitsOf k n))
+
 -- where no x^13 comes up nothing is fed back, and so the remainder is the value
 pub step-small : (r b : ℕ) → r * 2 + b < 8192 → stepBit r b ≡ r * 2 + b
 unfolding stepBit

@@ -19,18 +19,18 @@ use Rattle.block.proofs.Reading.{body-is}
 use Rattle.block.proofs.Strings.{are-bits, bits-drop, bits-take, bitsOf-val, next, parts, val-lt}
 
 -- a block came through a test only where the test held
-through : (t : Bool) (refusal : Refusal) (answer : Read) {code word : ℕ} → must t refusal answer ≡ Block code word → (t ≡ true) × (answer ≡ Block code word)
-through true refusal answer e = (refl, e)
-through false refusal answer e = absurd (let z : _≡_ {A = ℕ} 0 1 = cc in omega arith)
+through : (t : Bool) (refusal : Refusal) (told : ℕ) (answer : Read) {code word : ℕ} → must t refusal told answer ≡ Block code word → (t ≡ true) × (answer ≡ Block code word)
+through true refusal told answer e = (refl, e)
+through false refusal told answer e = absurd (let z : _≡_ {A = ℕ} 0 1 = cc in omega arith)
 
 module _ (s : List ℕ) (code word : ℕ) (e : readOf s ≡ Block code word) where
   tests : (length s ≡ 50) × Bits s × (prefixIn s ≡ 1) × (value (checkIn s) ≡ checkOf (bodyIn s)) × (Block (value (codeIn s)) (value (wordIn s)) ≡ Block code word)
   unfolding readOf
   tests =
-      let size = through (eqb (length s) 50) WrongLength _ e in
-      let bits = through (areBits s) NotABit _ (size .1) in
-      let prefix = through (eqb (prefixIn s) 1) WrongPrefix _ (bits .1) in
-      let check = through (eqb (value (checkIn s)) (checkOf (bodyIn s))) WrongCheckWord _ (prefix .1) in
+      let size = through (eqb (length s) 50) WrongLength 0 _ e in
+      let bits = through (areBits s) NotABit 0 _ (size .1) in
+      let prefix = through (eqb (prefixIn s) 1) WrongPrefix 0 _ (bits .1) in
+      let check = through (eqb (value (checkIn s)) (checkOf (bodyIn s))) WrongCheckWord _ _ (prefix .1) in
       (eqb-true (length s) 50 (size .0), are-bits s (bits .0), eqb-true (prefixIn s) 1 (prefix .0), eqb-true (value (checkIn s)) (checkOf (bodyIn s)) (check .0), check .1)
 
   code-is : value (codeIn s) ≡ code

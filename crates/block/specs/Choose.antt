@@ -9,11 +9,11 @@ use Rattle.block.specs.declared.Choice.the-variants.{First, Second, Neit
 use Rattle.block.specs.declared.Read.{Read}
 use Rattle.block.specs.declared.Read.the-variants.{Block, Refused}
 
--- by what the two slices read as; the refusal is the one that the first gets
+-- by what the two slices read as; the refusal is the one that the first gets, with the remainder that it tells
 abbrev pub between : Read → Read → Choice
 between (Block code word) second = First
-between (Refused refusal) (Block code word) = Second
-between (Refused refusal) (Refused other) = Neither refusal
+between (Refused refusal told) (Block code word) = Second
+between (Refused refusal told) (Refused other left) = Neither refusal told
 
 unfoldable pub choiceOf : List ℕ → List ℕ → Choice
 choiceOf first second = between (readOf first) (readOf second)
@@ -22,10 +22,15 @@ choiceOf first second = between (readOf first) (readOf second)
 abbrev pub chosen : {X : Type 0} → Choice → X → X → X → X
 chosen First one two none = one
 chosen Second one two none = two
-chosen (Neither refusal) one two none = none
+chosen (Neither refusal told) one two none = none
 
--- the number that is told: 0 with a block, else the refusal's
-abbrev pub told : Choice → ℕ
-told First = 0
-told Second = 0
-told (Neither refusal) = numberOf refusal
+-- the number and the remainder that are told: 0 with a block, else the refusal's (02, No. 7)
+abbrev pub numberTold : Choice → ℕ
+numberTold First = 0
+numberTold Second = 0
+numberTold (Neither refusal told) = numberOf refusal
+
+abbrev pub remainderTold : Choice → ℕ
+remainderTold First = 0
+remainderTold Second = 0
+remainderTold (Neither refusal told) = told

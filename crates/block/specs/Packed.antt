@@ -26,7 +26,7 @@ fits n = ltb n (2 ^ 50)
 
 -- reading: a bit above place 49 gets 14, then all is as with the fifty bits
 unfoldable pub readPacked : ℕ → Read
-readPacked n = must (fits n) NumberTooWide (readOf (bitsOf 50 n))
+readPacked n = must (fits n) NumberTooWide 0 (readOf (bitsOf 50 n))
 
 -- writing: the number of the block, or where the code is above 15 a refusal
 abbrev pub writePacked : ℕ → ℕ → Packed
@@ -57,6 +57,6 @@ numberPacked (packed.Number n) = n
 numberPacked (packed.Refused refusal) = 0
 
 -- what a number of fifty bits says, where the remainder of what stands behind the prefix is known: the prefix has to be 1, and
--- nothing may be left (BBC RD 1984/19, 5.3)
+-- nothing may be left (BBC RD 1984/19, 5.3); what is left is told
 unfoldable pub readBy : ℕ → ℕ → Read
-readBy n left = must (leb (2 ^ 49) n) WrongPrefix (must (eqb left 0) WrongCheckWord (Block (n / 2 ^ 45 % 16) (n / 2 ^ 13 % 2 ^ 32)))
+readBy n left = must (leb (2 ^ 49) n) WrongPrefix 0 (must (eqb left 0) WrongCheckWord left (Block (n / 2 ^ 45 % 16) (n / 2 ^ 13 % 2 ^ 32)))

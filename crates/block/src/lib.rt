@@ -5,7 +5,7 @@ mod memory;
 ghost use mathlib.Core.List.{[]};
 ghost use mathlib.Core.Path.{_≡_};
 ghost use lib.ListN.{length};
-ghost use Rattle.block.specs.Choose.{between, choiceOf, chosen, told};
+ghost use Rattle.block.specs.Choose.{between, choiceOf, chosen, numberTold, remainderTold};
 ghost use Rattle.block.specs.Packed.{readBy, readPacked, writePacked, choosePacked, packOf, unpackOf, unpackedOf};
 ghost use Rattle.block.specs.Read.{readOf};
 ghost use Rattle.block.specs.Write.{writeOf, writtenOf};
@@ -13,10 +13,10 @@ use circuit::remainder;
 use memory::store;
 use refusal::Refusal;
 
-// What reading a block finds.
+// What reading a block finds. A wrong check word tells the remainder of all fifty bits with the first inverted, any other refusal 0.
 pub enum Read {
     Block { code: u8, word: u32 },
-    Refused(Refusal),
+    Refused { refusal: Refusal, remainder: u16 },
 }
 
 // What became of writing a block.
@@ -31,24 +31,31 @@ pub enum Packed {
     Refused(Refusal),
 }
 
-// Which of two blocks is chosen; where neither is, why the first is refused.
+// Which of two blocks is chosen; where neither is, why the first is refused, and the remainder that it tells.
 pub enum Choice {
     First,
     Second,
-    Neither(Refusal),
+    Neither { refusal: Refusal, remainder: u16 },
 }
 
 // ---- as one number
 
-// The code and the word of a block's number, where the remainder of what stands behind the prefix is known.
-pub fn read_by(block: u64, left: u32) -> Read
+// The code and the word of a block's number, where the remainder of what stands behind the prefix is known. Behind a prefix 1 it is
+// that of all fifty bits with the first inverted.
+pub fn read_by(block: u64, left: u16) -> Read
     ensures { λ r. ⌜ r ≡ readBy block left ⌝ }
 {
     if block < 0x2_0000_0000_0000 {
-        return Read::Refused(Refusal::WrongPrefix);
+        return Read::Refused {
+            refusal: Refusal::WrongPrefix,
+            remainder: 0,
+        };
     }
     if left != 0 {
-        return Read::Refused(Refusal::WrongCheckWord);
+        return Read::Refused {
+            refusal: Refusal::WrongCheckWord,
+            remainder: left,
+        };
     }
     let code = (block / 0x2000_0000_0000 % 16) as u8;
     let word = (block / 0x2000 % 0x1_0000_0000) as u32;
@@ -60,9 +67,12 @@ pub fn read_packed(block: u64) -> Read
     ensures { λ r. ⌜ r ≡ readPacked block ⌝ }
 {
     if 0x3_FFFF_FFFF_FFFF < block {
-        return Read::Refused(Refusal::NumberTooWide);
+        return Read::Refused {
+            refusal: Refusal::NumberTooWide,
+            remainder: 0,
+        };
     }
-    read_by(block, remainder(block))
+    read_by(block, remainder(block) as u16)
 }
 
 // The block of a code and a word. The prefix, the code and the word stand first, and what they leave is added below.
@@ -80,13 +90,17 @@ pub fn write_packed(code: u8, word: u32) -> Packed
 fn between(one: Read, two: Read) -> Choice
     ensures { λ r. ⌜ r ≡ between one two ⌝ }
 {
-    let Read::Refused(refusal) = one else {
+    let Read::Refused { refusal, remainder } = one else {
         return Choice::First;
     };
-    match two {
-        Read::Block { code: _, word: _ } => Choice::Second,
-        Read::Refused(_) => Choice::Neither(refusal),
-    }
+    let Read::Refused {
+        refusal: _,
+        remainder: _,
+    } = two
+    else {
+        return Choice::Second;
+    };
+    Choice::Neither { refusal, remainder }
 }
 
 // Which of two aerials' numbers is a good block, the first before the second.
@@ -138,7 +152,10 @@ pub fn read_block(block: &[u8]) -> Read
 {
     match pack(block) {
         Packed::Number(number) => read_packed(number),
-        Packed::Refused(refusal) => Read::Refused(refusal),
+        Packed::Refused(refusal) => Read::Refused {
+            refusal,
+            remainder: 0,
+        },
     }
 }
 
@@ -162,25 +179,38 @@ pub fn choose_between(first: &[u8], second: &[u8]) -> Choice
     between(read_block(first), read_block(second))
 }
 
-// The slice that is chosen, all fifty places, or the empty part at the first's start; the number tells which refusal.
-pub fn choose<'a>(first: &'a [u8], second: &'a [u8], number: &mut u8) -> &'a [u8]
+// The slice that is chosen, all fifty places, or the empty part at the first's start; number and remainder tell how the first is
+// refused.
+pub fn choose<'a>(
+    first: &'a [u8],
+    second: &'a [u8],
+    number: &mut u8,
+    remainder: &mut u16,
+) -> &'a [u8]
     ensures bits { λ r. ⌜ now r ≡ chosen (choiceOf (now (first .entry)) (now (second .entry))) (now (first .entry)) (now (second .entry)) [] ⌝ }
     ensures part { λ r. ⌜ r ≡ chosen (choiceOf (now (first .entry)) (now (second .entry))) (first .entry) (second .entry) r ⌝ }
     ensures place { λ r. ⌜ r .ptr ≡ chosen (choiceOf (now (first .entry)) (now (second .entry))) (first .entry .ptr) (second .entry .ptr) (first .entry .ptr) ⌝ }
-    ensures number { λ r. ⌜ now (number .exit) ≡ told (choiceOf (now (first .entry)) (now (second .entry))) ⌝ }
+    ensures number { λ r. ⌜ now (number .exit) ≡ numberTold (choiceOf (now (first .entry)) (now (second .entry))) ⌝ }
+    ensures remainder { λ r. ⌜ now (remainder .exit) ≡ remainderTold (choiceOf (now (first .entry)) (now (second .entry))) ⌝ }
 {
     let which = choose_between(first, second);
     match which {
         Choice::First => {
             *number = 0;
+            *remainder = 0;
             first
         }
         Choice::Second => {
             *number = 0;
+            *remainder = 0;
             second
         }
-        Choice::Neither(refusal) => {
+        Choice::Neither {
+            refusal,
+            remainder: left,
+        } => {
             *number = refusal::number(refusal);
+            *remainder = left;
             &first[..0]
         }
     }

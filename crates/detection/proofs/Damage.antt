@@ -1,21 +1,26 @@
--- Damage: between two good blocks the pattern of changes leaves no remainder, and none of the four kinds of damage does that.
+-- Damage: a good block that is changed leaves what the changes leave, by linearity; so between two good blocks they leave no remainder,
+-- and none of the four kinds of damage does that.
 -- Assumes nothing.
+use mathlib.Core.Bool.{cond}
 use mathlib.Core.List.{List, [], _∷_}
 use mathlib.Core.Logic.{inl, inr, ⊎-elim}
-use mathlib.Core.Path.{_≡_, refl, sym, ap, ap₂, _∙_}
+use mathlib.Core.Path.{_≡_, refl, sym, ap, _∙_}
 use Prim.Native.Nat.{ℕ, zero, suc, _-_, _≤_}
 use native.Mathlib.Omega.{arith}
 use lib.Bits.{bitXor}
 use lib.Dec.{eqb}
-use lib.ListN.{length}
+use lib.ListN.{length, drop}
 use Rattle.block.specs.Bits.{Bits, xors}
 use Rattle.block.specs.Block.{Good, prefixIn}
 use Rattle.block.specs.Division.{stepBit, remainderFrom, remainder}
+use Rattle.block.specs.Read.{readOf, refusalIn, remainderRead}
 use Rattle.block.proofs.Xor.{on-bit, xor-cancel}
 use Rattle.block.proofs.Linear.{rem-xor}
-use Rattle.block.proofs.Strings.{bits-at, bits-xors, length-xors}
+use Rattle.block.proofs.Strings.{bits-are, bits-at, bits-xors, length-xors}
 use Rattle.block.proofs.CheckWord.{good-rem}
-use Rattle.detection.specs.Damage.{Among, weight, Damage, few, odd, burst, groups, refusedWith, DamageRefused}
+use Rattle.block.proofs.Reading.{wrong-prefix}
+use Rattle.block.proofs.Told.{told-is}
+use Rattle.detection.specs.Damage.{Among, weight, Pattern, Damage, few, odd, burst, groups, refusedWith, DamageRefused, DamageTold}
 use Rattle.detection.proofs.Odd.{not-odd}
 use Rattle.detection.proofs.Places.{only}
 use Rattle.detection.proofs.Burst.{not-burst}
@@ -68,21 +73,46 @@ prefix-xors [] e g l = absurd (omega (arith, g .size))
 prefix-xors (p ∷ s) [] g l = absurd (omega arith)
 prefix-xors (p ∷ s) (f ∷ e) g l = ap (λ (x : ℕ). bitXor x f) (g .prefix)
 
--- both begin with a 1 and leave nothing behind it, so the pattern begins with a 0 and leaves nothing
-between : (s e : List ℕ) → Good s → length e ≡ 50 → Bits e → Good (xors s e) → remainder e ≡ 0
+-- a good block leaves nothing behind its prefix; so where the prefix is not changed, the changed block leaves there what the changes do
+left-by : (s e : List ℕ) → Good s → length e ≡ 50 → Bits e → prefixIn e ≡ 0 → remainder (drop 1 (xors s e)) ≡ remainder e
 unfolding xors remainderFrom
-between [] e g l h w = absurd (omega (arith, g .size))
-between (p ∷ s) [] g l h w = absurd (omega arith)
-between (p ∷ s) (f ∷ e) g l h w =
-    let z : f ≡ 0 = sym (xor-cancel p f) ∙ ap₂ bitXor (g .prefix) (w .prefix) in
-    ap (λ (x : ℕ). remainderFrom (stepBit 0 x) e) z
-    ∙ sym (ap (λ (x : ℕ). bitXor x (remainder e)) (good-rem (p ∷ s) g))
-    ∙ sym (rem-xor s e 0 0 (omega arith) (omega arith) (g .bits .1) (h .1) (omega (arith, g .size)))
-    ∙ good-rem (bitXor p f ∷ xors s e) w
+left-by [] e g l h z = absurd (omega (arith, g .size))
+left-by (p ∷ s) [] g l h z = absurd (omega arith)
+left-by (p ∷ s) (f ∷ e) g l h z =
+    rem-xor s e 0 0 (omega arith) (omega arith) (g .bits .1) (h .1) (omega (arith, g .size))
+    ∙ ap (λ (x : ℕ). bitXor x (remainder e)) (good-rem (p ∷ s) g)
+    ∙ sym (ap (λ (x : ℕ). remainderFrom (stepBit 0 x) e) z)
+
+module _ (s e : List ℕ) (g : Good s) (p : Pattern e) where
+  prefix-is : prefixIn (xors s e) ≡ bitXor 1 (prefixIn e)
+  prefix-is = prefix-xors s e g (p .size)
+
+  size : length (xors s e) ≡ 50
+  size = length-xors s e (omega (arith, g .size, p .size)) ∙ g .size
+
+  bits : Bits (xors s e)
+  bits = bits-xors s e (g .bits) (p .bits)
+
+  -- both begin with a 1, so the pattern begins with a 0
+  between : Good (xors s e) → remainder e ≡ 0
+  between w =
+      let z : prefixIn e ≡ 0 = sym (xor-cancel 1 (prefixIn e)) ∙ ap (bitXor 1) (sym prefix-is ∙ w .prefix) in
+      sym (left-by s e g (p .size) (p .bits) z) ∙ good-rem (xors s e) w
+
+  refused-with : Damage e → refusalIn (readOf (xors s e)) ≡ refusedWith (eqb (prefixIn e) 1)
+  refused-with d =
+      refused (xors s e) size bits (λ w. not-damage e (p .bits) (omega (arith, p .size)) (omega (arith, p .some)) (between w) d)
+      ∙ ap refusedWith (ap (λ (x : ℕ). eqb x 0) prefix-is ∙ on-bit (λ x. eqb (bitXor 1 x) 0 ≡ eqb x 1) refl refl (prefixIn e) (bits-at e 0 (p .bits)))
+
+  tells : remainderRead (readOf (xors s e)) ≡ cond (eqb (prefixIn e) 1) 0 (remainder e)
+  tells =
+      on-bit (λ f. prefixIn e ≡ f → remainderRead (readOf (xors s e)) ≡ cond (eqb f 1) 0 (remainder e))
+      (λ z. told-is (xors s e) size bits (prefix-is ∙ ap (bitXor 1) z) ∙ left-by s e g (p .size) (p .bits) z)
+      (λ o. let f : prefixIn (xors s e) ≡ 0 = prefix-is ∙ ap (bitXor 1) o in ap remainderRead (sym (wrong-prefix (xors s e) size (bits-are (xors s e) bits) (λ q. omega arith))))
+      (prefixIn e) (bits-at e 0 (p .bits)) refl
 
 pub damage-refused : DamageRefused
-damage-refused s e g p d =
-    refused (xors s e) (length-xors s e (omega (arith, g .size, p .size)) ∙ g .size) (bits-xors s e (g .bits) (p .bits))
-    (λ w. not-damage e (p .bits) (omega (arith, p .size)) (omega (arith, p .some)) (between s e g (p .size) (p .bits) w) d)
-    ∙ ap refusedWith
-    (ap (λ (x : ℕ). eqb x 0) (prefix-xors s e g (p .size)) ∙ on-bit (λ x. eqb (bitXor 1 x) 0 ≡ eqb x 1) refl refl (prefixIn e) (bits-at e 0 (p .bits)))
+damage-refused = refused-with
+
+pub damage-told : DamageTold
+damage-told = tells

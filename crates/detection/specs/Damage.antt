@@ -1,4 +1,4 @@
--- Damage: a good block that is changed at some of its places is refused, for four kinds of change.
+-- Damage: a good block that is changed at some of its places is refused, for four kinds of change; and what it tells, for every change.
 -- Assumes nothing.
 use mathlib.Core.Bool.{Bool, cond}
 use mathlib.Core.List.{List, [], _∷_}
@@ -9,7 +9,8 @@ use lib.Dec.{eqb}
 use lib.ListN.{length, getD}
 use Rattle.block.specs.Bits.{Bits, xors}
 use Rattle.block.specs.Block.{Good, prefixIn}
-use Rattle.block.specs.Read.{readOf, refusalIn}
+use Rattle.block.specs.Division.{remainder}
+use Rattle.block.specs.Read.{readOf, refusalIn, remainderRead}
 
 -- Places are counted from 0, which is the prefix, to 49.
 -- A pattern of changes e is a string of bits with a 1 at each place that is changed: s becomes `xors s e`, and its bits stay 0 or 1.
@@ -51,3 +52,8 @@ refusedWith prefixWrong = cond prefixWrong 3 4
 -- Every good block s with every such damage e is refused: with 3 where the prefix changed, with 4 otherwise.
 abbrev pub DamageRefused : Type 0
 DamageRefused = (s e : List ℕ) → Good s → Pattern e → Damage e → refusalIn (readOf (xors s e)) ≡ refusedWith (eqb (prefixIn e) 1)
+
+-- What a changed block tells is the remainder of the changes alone, whatever the block says (02, No. 7): so a table of faults can be
+-- kept. Where the prefix changed it is refused with 3 and tells nothing.
+abbrev pub DamageTold : Type 0
+DamageTold = (s e : List ℕ) → Good s → Pattern e → remainderRead (readOf (xors s e)) ≡ cond (eqb (prefixIn e) 1) 0 (remainder e)

@@ -1,6 +1,7 @@
 -- Two results that a contract of this face allows for the same input are equal, lent bytes included.
 -- Assumes nothing.
-use mathlib.Core.Path.{sym, _∙_}
+use mathlib.Core.Path.{sym, ap₂, _∙_}
+use Prim.Native.Nat.{ℕ}
 use denote.Ref.{now}
 use Rattle.refusal.proofs.Determined.{Determined, Leaves}
 use Rattle.face_block.proofs.lw_choose.Reads as choose
@@ -25,8 +26,8 @@ write-block-leaves κs a x y s t p q = p .1 ∙ sym (q .1)
 pub choose-determined : Determined choose.Post
 choose-determined κs a x y s t p q = p .0 ∙ sym (q .0)
 
-pub choose-leaves : Leaves choose.Post (λ κs s. now (s .1 .1 .0))
-choose-leaves κs a x y s t p q = p .1 ∙ sym (q .1)
+pub choose-leaves : Leaves {X = ℕ × ℕ} choose.Post (λ κs s. (now (s .1 .1 .0), now (s .1 .1 .1 .0)))
+choose-leaves κs a x y s t p q = ap₂ (λ (n r : ℕ). (n, r)) (p .1 .0 ∙ sym (q .1 .0)) (p .1 .1 ∙ sym (q .1 .1))
 
 pub read-packed-determined : Determined read-packed.Post
 read-packed-determined κs a x y s t p q = p ∙ sym q
@@ -37,8 +38,8 @@ write-packed-determined κs a x y s t p q = p ∙ sym q
 pub choose-packed-determined : Determined choose-packed.Post
 choose-packed-determined κs a x y s t p q = p .0 ∙ sym (q .0)
 
-pub choose-packed-leaves : Leaves choose-packed.Post (λ κs s. now (s .1 .1 .0))
-choose-packed-leaves κs a x y s t p q = p .1 ∙ sym (q .1)
+pub choose-packed-leaves : Leaves {X = ℕ × ℕ} choose-packed.Post (λ κs s. (now (s .1 .1 .0), now (s .1 .1 .1 .0)))
+choose-packed-leaves κs a x y s t p q = ap₂ (λ (n r : ℕ). (n, r)) (p .1 .0 ∙ sym (q .1 .0)) (p .1 .1 ∙ sym (q .1 .1))
 
 pub pack-determined : Determined pack.Post
 pack-determined κs a x y s t p q = p ∙ sym q

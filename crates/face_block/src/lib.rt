@@ -1,7 +1,7 @@
 // The block's calls as C sees them: flat answers, numbered as document 01 numbers things. The version, which belongs to no floor,
 // stands here on the lowest.
 ghost use mathlib.Core.Path.{_≡_};
-ghost use Rattle.block.specs.Choose.{choiceOf, chosen, told};
+ghost use Rattle.block.specs.Choose.{choiceOf, chosen, numberTold, remainderTold};
 ghost use Rattle.block.specs.Packed.{readPacked, writePacked, choosePacked, packOf, unpackOf, unpackedOf};
 ghost use Rattle.block.specs.Read.{readOf};
 ghost use Rattle.block.specs.Write.{writeOf, writtenOf, refusalOf};
@@ -12,12 +12,14 @@ use block::Packed;
 use block::Read;
 use block::Written;
 
-// What reading a block answers: the refusal's number, 0 for none, then code and word, zeros where refused.
+// What reading a block answers: the refusal's number, 0 for none, then code and word, zeros where refused, and the remainder, zero
+// unless refused with 4.
 #[repr(C)]
 pub struct BlockAnswer {
     pub refusal: u8,
     pub code: u8,
     pub word: u32,
+    pub remainder: u16,
 }
 
 // A block as one number: the refusal's number, 0 for none, then the block, zero where refused.
@@ -37,11 +39,13 @@ fn answer(read: Read) -> BlockAnswer
             refusal: 0,
             code,
             word,
+            remainder: 0,
         },
-        Read::Refused(refusal) => BlockAnswer {
+        Read::Refused { refusal, remainder } => BlockAnswer {
             refusal: refusal::number(refusal),
             code: 0,
             word: 0,
+            remainder,
         },
     }
 }
@@ -69,20 +73,28 @@ fn outcome(written: Written) -> u8
 }
 
 // 1 for the first, 2 for the second, 0 for neither: C is told which, since a slice cannot be handed to it.
-fn tell(choice: Choice, number: &mut u8) -> u8
-    ensures { λ r. ⌜ (r ≡ chosen choice 1 2 0) × (now (number .exit) ≡ told choice) ⌝ }
+fn tell(choice: Choice, number: &mut u8, remainder: &mut u16) -> u8
+    ensures choice { λ r. ⌜ r ≡ chosen choice 1 2 0 ⌝ }
+    ensures number { λ r. ⌜ now (number .exit) ≡ numberTold choice ⌝ }
+    ensures remainder { λ r. ⌜ now (remainder .exit) ≡ remainderTold choice ⌝ }
 {
     match choice {
         Choice::First => {
             *number = 0;
+            *remainder = 0;
             1
         }
         Choice::Second => {
             *number = 0;
+            *remainder = 0;
             2
         }
-        Choice::Neither(refusal) => {
+        Choice::Neither {
+            refusal,
+            remainder: left,
+        } => {
             *number = refusal::number(refusal);
+            *remainder = left;
             0
         }
     }
@@ -105,10 +117,12 @@ pub extern "C" fn lw_write_block(code: u8, word: u32, bits: &mut [u8]) -> u8
 }
 
 #[no_mangle]
-pub extern "C" fn lw_choose(first: &[u8], second: &[u8], number: &mut u8) -> u8
-    ensures { λ r. ⌜ (r ≡ chosen (choiceOf (now (first .entry)) (now (second .entry))) 1 2 0) × (now (number .exit) ≡ told (choiceOf (now (first .entry)) (now (second .entry)))) ⌝ }
+pub extern "C" fn lw_choose(first: &[u8], second: &[u8], number: &mut u8, remainder: &mut u16) -> u8
+    ensures choice { λ r. ⌜ r ≡ chosen (choiceOf (now (first .entry)) (now (second .entry))) 1 2 0 ⌝ }
+    ensures number { λ r. ⌜ now (number .exit) ≡ numberTold (choiceOf (now (first .entry)) (now (second .entry))) ⌝ }
+    ensures remainder { λ r. ⌜ now (remainder .exit) ≡ remainderTold (choiceOf (now (first .entry)) (now (second .entry))) ⌝ }
 {
-    tell(block::choose_between(first, second), number)
+    tell(block::choose_between(first, second), number, remainder)
 }
 
 // ---- the block as one number
@@ -128,10 +142,17 @@ pub extern "C" fn lw_write_packed(code: u8, word: u32) -> PackedAnswer
 }
 
 #[no_mangle]
-pub extern "C" fn lw_choose_packed(first: u64, second: u64, number: &mut u8) -> u8
-    ensures { λ r. ⌜ (r ≡ chosen (choosePacked first second) 1 2 0) × (now (number .exit) ≡ told (choosePacked first second)) ⌝ }
+pub extern "C" fn lw_choose_packed(
+    first: u64,
+    second: u64,
+    number: &mut u8,
+    remainder: &mut u16,
+) -> u8
+    ensures choice { λ r. ⌜ r ≡ chosen (choosePacked first second) 1 2 0 ⌝ }
+    ensures number { λ r. ⌜ now (number .exit) ≡ numberTold (choosePacked first second) ⌝ }
+    ensures remainder { λ r. ⌜ now (remainder .exit) ≡ remainderTold (choosePacked first second) ⌝ }
 {
-    tell(block::choose_packed(first, second), number)
+    tell(block::choose_packed(first, second), number, remainder)
 }
 
 #[no_mangle]

@@ -19,21 +19,21 @@ use Rattle.timekeeping.specs.Times.{usableIn, offeredTo}
 use Rattle.locking.specs.declared.Judged.{Judged}
 use Rattle.locking.specs.declared.Lock.{Lock}
 use Rattle.locking.specs.Locks.{locked, lockOf}
-use Rattle.locking.specs.Modes.{goodBlock, heldOn, judgedBy}
+use Rattle.locking.specs.Modes.{blocksOf, goodBlock, heldOn, judgedBy}
 use Rattle.locking.proofs.Choices.{held-judged}
 use Rattle.receiver.specs.declared.Ran.{Ran}
 use Rattle.receiver.specs.States.{stateOf}
 use Rattle.receiver.specs.Steps.{waitingAfter, bitsAfter, judgedStep, stepOf}
-use Rattle.receiver.specs.Runs.{runFrom}
+use Rattle.receiver.specs.Runs.{plus, runFrom}
 
 -- a run goes on after a judged window
 abbrev onFrom : List ℕ → ℕ → List ℕ → Judged → Ran
-onFrom rest good w j = runFrom rest (good + j .good) (j .bad) (j .passed) (stateOf (j .lock) (waitingAfter j) (bitsAfter j w))
+onFrom rest good w j = runFrom rest (plus (blocksOf good 0 0) (j .blocks)) (j .passed) (stateOf (j .lock) (waitingAfter j) (bitsAfter j w))
 
 module _ (rest : List ℕ) (good : ℕ) (l : Lock) where
   -- p waits, q are the places that are not in use yet, and as many bits come as there are of those
   fills : (x : ℕ) (xs p q : List ℕ) (k : ℕ) → length p ≡ k → length q ≡ length (x ∷ xs) → k + length (x ∷ xs) ≡ 50 → Bits (x ∷ xs)
-      → runFrom ((x ∷ xs) ++ rest) good 0 0 (stateOf l k (p ++ q)) ≡ onFrom rest good (p ++ x ∷ xs) (judgedBy l (readOf (p ++ x ∷ xs)))
+      → runFrom ((x ∷ xs) ++ rest) (blocksOf good 0 0) 0 (stateOf l k (p ++ q)) ≡ onFrom rest good (p ++ x ∷ xs) (judgedBy l (readOf (p ++ x ∷ xs)))
   unfolding runFrom stepOf judgedStep
   fills x xs p [] k a b c h = absurd (omega arith)
   fills x [] p (y ∷ []) k a b c h = rw (lt-ltb x 2 (h .0), le-ltb k 49 (omega arith), set-at p y [] x k a) (simp zero-add)
@@ -51,11 +51,11 @@ unfolding heldOn
 good-taken l w code word e m = held-judged l w m ∙ rw e
 
 pub feeds : (code word good : ℕ) (bits rest : List ℕ) (l : Lock) → code < 16 → word < 2 ^ 32 → length bits ≡ 50 → l .mode ≡ locked
-    → runFrom (blockOf code word ++ rest) good 0 0 (stateOf l 0 bits) ≡ runFrom rest (good + 1) 0 0 (stateOf (taken l (readOf (blockOf code word))) 0 (zeros 50))
+    → runFrom (blockOf code word ++ rest) (blocksOf good 0 0) 0 (stateOf l 0 bits) ≡ runFrom rest (blocksOf (good + 1) 0 0) 0 (stateOf (taken l (readOf (blockOf code word))) 0 (zeros 50))
 feeds code word good bits rest l hc hw b m = go (blockOf code word) (written-good code word) (read-back code word hc hw)
   where
     go : (w : List ℕ) → Good w → readOf w ≡ Block code word
-        → runFrom (w ++ rest) good 0 0 (stateOf l 0 bits) ≡ runFrom rest (good + 1) 0 0 (stateOf (taken l (readOf w)) 0 (zeros 50))
+        → runFrom (w ++ rest) (blocksOf good 0 0) 0 (stateOf l 0 bits) ≡ runFrom rest (blocksOf (good + 1) 0 0) 0 (stateOf (taken l (readOf w)) 0 (zeros 50))
     go [] g e = absurd (omega (arith, g .size))
     go (x ∷ xs) g e =
         fills rest good l x xs [] bits 0 refl (omega (arith, g .size)) (omega (arith, g .size)) (g .bits)

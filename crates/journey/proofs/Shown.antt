@@ -20,6 +20,7 @@ use Rattle.calendar.proofs.Answers.{Usable}
 use Rattle.calendar.proofs.RoundTrip.{date-back}
 use Rattle.calendar.proofs.Stepping.{next-of-date}
 use Rattle.timekeeping.specs.Times.{candidate, confirmed}
+use Rattle.locking.specs.Modes.{blocksOf}
 use Rattle.receiver.specs.declared.State.{State}
 use Rattle.receiver.specs.Runs.{ended, runFrom, runOf}
 use Rattle.receiver.proofs.Together.{run-is}
@@ -39,12 +40,12 @@ module _ (s : State) (d : Date) (r : Record) (first : ℕ) (i : Idle s) (w : Wri
   usable : Usable r
   usable = date-usable d r (w .is-recorded)
 
-  begins : (rest : List ℕ) → length rest ≤ 1500 → runOf s (timeBlock r ++ rest) ≡ runFrom rest 1 0 0 (holding candidate r 0)
+  begins : (rest : List ℕ) → length rest ≤ 1500 → runOf s (timeBlock r ++ rest) ≡ runFrom rest (blocksOf 1 0 0) 0 (holding candidate r 0)
   begins rest h =
       run-is s (timeBlock r ++ rest) (omega (arith, length-append (timeBlock r) rest, length-block 0 (wordOf r))) (i .proper)
       ∙ first-block rest r s usable i
 
-  arrives : runOf s (timeBlock r) ≡ ended 0 1 0 0 (holding candidate r 0)
+  arrives : runOf s (timeBlock r) ≡ ended 0 (blocksOf 1 0 0) 0 (holding candidate r 0)
   unfolding runFrom
   arrives = ap (runOf s) (sym (append-nil (timeBlock r))) ∙ begins [] (omega arith)
 
@@ -52,14 +53,14 @@ module _ (s : State) (d : Date) (r : Record) (first : ℕ) (i : Idle s) (w : Wri
     next : Usable n
     next = next-usable r n usable e
 
-    confirms : (ms : List Message) → length ms ≡ 29 → Others ms → runOf s (timeBlock r ++ (sent ms ++ timeBlock n)) ≡ ended 0 31 0 0 (holding confirmed n 0)
+    confirms : (ms : List Message) → length ms ≡ 29 → Others ms → runOf s (timeBlock r ++ (sent ms ++ timeBlock n)) ≡ ended 0 (blocksOf 31 0 0) 0 (holding confirmed n 0)
     unfolding runFrom
     confirms ms l o =
         let all : length (sent ms ++ timeBlock n) ≡ 1500 =
         length-append (sent ms) (timeBlock n) ∙ omega (arith, length-sent ms, length-block 0 (wordOf n)) in
         begins (sent ms ++ timeBlock n) (omega arith) ∙ other-blocks (timeBlock n) ms r 1 0 o (omega arith)
-        ∙ ap (λ (k : ℕ). runFrom (timeBlock n) (1 + k) 0 0 (holding candidate r (0 + k))) l
-        ∙ ap (λ (l : List ℕ). runFrom l 30 0 0 (holding candidate r 29)) (sym (append-nil (timeBlock n)))
+        ∙ ap (λ (k : ℕ). runFrom (timeBlock n) (blocksOf (1 + k) 0 0) 0 (holding candidate r (0 + k))) l
+        ∙ ap (λ (l : List ℕ). runFrom l (blocksOf 30 0 0) 0 (holding candidate r 29)) (sym (append-nil (timeBlock n)))
         ∙ last-block [] r n next e
 
     dates-on : nextOfDate d .year < first + span → dateOf n first ≡ dated.Given (nextOfDate d)

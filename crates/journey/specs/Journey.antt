@@ -23,6 +23,7 @@ use Rattle.calendar.specs.NextMinute.{nextMinuteOf, nextOfDate}
 use Rattle.timekeeping.specs.Proper.{isGiven}
 use Rattle.timekeeping.specs.Times.{none, candidate, confirmed, timeOf, usableIn}
 use Rattle.locking.specs.Locks.{locked, lockOf}
+use Rattle.locking.specs.Modes.{blocksOf}
 use Rattle.receiver.specs.declared.State.{State}
 use Rattle.receiver.specs.States.{nothingWaits, properOf}
 use Rattle.receiver.specs.Runs.{ended, runOf}
@@ -76,7 +77,7 @@ pub record NextMinute (s : State) (d : Date) (r : Record) (first : ℕ) (n : Rec
       (others : List Message) →
       length others ≡ 29 →
       Others others →
-      runOf s (timeBlock r ++ (sent others ++ timeBlock n)) ≡ ended 0 31 0 0 (holding confirmed n 0)
+      runOf s (timeBlock r ++ (sent others ++ timeBlock n)) ≡ ended 0 (blocksOf 31 0 0) 0 (holding confirmed n 0)
   -- the held record's date is one minute later, where that minute is still in the 28 years, which end with 2099 at the latest
   pub dates-on : nextOfDate d .year < first + span → dateOf n first ≡ dated.Given (nextOfDate d)
 
@@ -84,7 +85,7 @@ pub record Journey (s : State) (d : Date) (r : Record) (first : ℕ) : Type 0 wh
   -- the record has a word
   pub has-word : writtenOf r ≡ worded.Given (wordOf r)
   -- the fifty bits of its block count one good block and leave the record as a candidate at age 0
-  pub arrives : runOf s (timeBlock r) ≡ ended 0 1 0 0 (holding candidate r 0)
+  pub arrives : runOf s (timeBlock r) ≡ ended 0 (blocksOf 1 0 0) 0 (holding candidate r 0)
   -- the held record dates back to the date
   pub dates-back : dateOf r first ≡ dated.Given d
   -- and it goes on with the record of the next minute; there is none only at 23:59 before a day in week 54

@@ -24,7 +24,7 @@ pub record Layouts : Type 0 where
   -- ---- the block. What packs is fifty bits, and unpacking gives them back; what does not is refused as reading refuses it
   pub packs : (s held : List ℕ) (n : ℕ) → length held ≡ 50 → packOf s ≡ packing.Number n → (n < 2 ^ 50) × (unpackedOf held n ≡ s)
   pub unpacks : (held : List ℕ) (n : ℕ) → length held ≡ 50 → n < 2 ^ 50 → packOf (unpackedOf held n) ≡ packing.Number n
-  pub refuses : (s : List ℕ) (why : Refusal) → packOf s ≡ packing.Refused why → readOf s ≡ reading.Refused why
+  pub refuses : (s : List ℕ) (why : Refusal) → packOf s ≡ packing.Refused why → readOf s ≡ reading.Refused why 0
   -- reading the number of a slice is reading the slice
   pub read : (s : List ℕ) (n : ℕ) → packOf s ≡ packing.Number n → readPacked n ≡ readOf s
   -- writing the number is writing fifty places and packing them, or it is refused alike

@@ -5,6 +5,7 @@ use mathlib.Core.Path.{_≡_, refl}
 use mathlib.Core.Bool.{true, false}
 use borrow.Author.Tests.{eqb-true, eqb-false, leb-true, leb-false}
 use lib.Dec.{eqb, leb}
+use Rattle.block.specs.Read.{remainderRead}
 use Rattle.block.specs.declared.Read.{Read}
 use Rattle.timekeeping.specs.declared.Time.{Time}
 use Rattle.timekeeping.specs.Times.{noTime, usableIn, offeredTo}
@@ -15,7 +16,7 @@ use Rattle.locking.specs.Locks.{hunting, trying, locked, lockOf, freshLo
 use Rattle.locking.specs.Modes.{isGood, goodBlock, badBlock, passedOver, hunted, tried, heldOn, judgedBy}
 
 -- a judged window is a good block, a bad one, or passes one bit over
-pub judged-elim : (P : Judged → Type 0) (l : Lock) (w : Read) → ((k : Lock) → P (goodBlock k)) → ((k : Lock) → P (badBlock k)) → P (passedOver freshLock) → P (judgedBy l w)
+pub judged-elim : (P : Judged → Type 0) (l : Lock) (w : Read) → ((k : Lock) → P (goodBlock k)) → ((k : Lock) → P (badBlock (remainderRead w) k)) → P (passedOver freshLock) → P (judgedBy l w)
 unfolding judgedBy hunted tried heldOn
 judged-elim P l w good bad passed =
     cond-elim P (eqb (l .mode) hunting) (λ _. cond-elim P (isGood w) (λ _. good _) (λ _. passed))
@@ -24,16 +25,16 @@ judged-elim P l w good bad passed =
     (λ _. cond-elim P (isGood w) (λ _. good _) (λ _. bad _)))
 
 -- so it counts one of the three
-pub counts-one : (l : Lock) (w : Read) {j : Judged} → j ≡ judgedBy l w → j .good + j .bad + j .passed ≡ 1
-counts-one l w e = rw e (judged-elim (λ (j : Judged). j .good + j .bad + j .passed ≡ 1) l w (λ _. refl) (λ _. refl) refl)
+pub counts-one : (l : Lock) (w : Read) {j : Judged} → j ≡ judgedBy l w → j .blocks .good + j .blocks .bad + j .passed ≡ 1
+counts-one l w e = rw e (judged-elim (λ (j : Judged). j .blocks .good + j .blocks .bad + j .passed ≡ 1) l w (λ _. refl) (λ _. refl) refl)
 
 -- a locked state stays so, with the block offered to its time, or it is fresh
-pub held-elim : (P : Judged → Type 0) (bad : ℕ) (t : Time) (w : Read) → P (goodBlock (lockOf locked 0 0 (offeredTo t (usableIn w)))) → P (badBlock freshLock)
-    → (bad + 1 < 4 → P (badBlock (lockOf locked 0 (bad + 1) (offeredTo t (usableIn w))))) → P (heldOn bad t w)
+pub held-elim : (P : Judged → Type 0) (bad : ℕ) (t : Time) (w : Read) → P (goodBlock (lockOf locked 0 0 (offeredTo t (usableIn w)))) → P (badBlock (remainderRead w) freshLock)
+    → (bad + 1 < 4 → P (badBlock (remainderRead w) (lockOf locked 0 (bad + 1) (offeredTo t (usableIn w))))) → P (heldOn bad t w)
 unfolding heldOn
 held-elim P bad t w good lost kept =
     cond-elim P (isGood w) (λ _. good)
-    (λ _. cond-elim (λ (l : Lock). P (badBlock l)) (leb 4 (bad + 1)) (λ _. lost) (λ e. kept (leb-false 4 (bad + 1) e)))
+    (λ _. cond-elim (λ (l : Lock). P (badBlock (remainderRead w) l)) (leb 4 (bad + 1)) (λ _. lost) (λ e. kept (leb-false 4 (bad + 1) e)))
 
 -- a judged window leaves a fresh lock, or it is one good block more, the third of which locks, or the lock was there already
 pub modes-elim : (P : Judged → Type 0) (l : Lock) (w : Read) → ((j : Judged) → j .lock ≡ freshLock → P j)

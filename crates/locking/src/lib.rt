@@ -15,10 +15,16 @@ pub struct Lock {
     pub time: Time,
 }
 
-// What a judged window counts, and the lock after it.
+// How many judged blocks were good and how many bad, and the remainder of the last bad one that tells one.
+pub struct Blocks {
+    pub good: u32,
+    pub bad: u32,
+    pub remainder: u16,
+}
+
+// What a judged window counts, as a block or as a bit passed over, and the lock after it.
 pub struct Judged {
-    pub good: u8,
-    pub bad: u8,
+    pub blocks: Blocks,
     pub passed: u8,
     pub lock: Lock,
 }
@@ -44,20 +50,28 @@ pub fn fresh_lock() -> Lock
 fn good_block(lock: Lock) -> Judged
     ensures { λ j. ⌜ j ≡ goodBlock lock ⌝ }
 {
-    Judged {
+    let blocks = Blocks {
         good: 1,
         bad: 0,
+        remainder: 0,
+    };
+    Judged {
+        blocks,
         passed: 0,
         lock,
     }
 }
 
-fn bad_block(lock: Lock) -> Judged
-    ensures { λ j. ⌜ j ≡ badBlock lock ⌝ }
+fn bad_block(remainder: u16, lock: Lock) -> Judged
+    ensures { λ j. ⌜ j ≡ badBlock remainder lock ⌝ }
 {
-    Judged {
+    let blocks = Blocks {
         good: 0,
         bad: 1,
+        remainder,
+    };
+    Judged {
+        blocks,
         passed: 0,
         lock,
     }
@@ -66,9 +80,13 @@ fn bad_block(lock: Lock) -> Judged
 fn passed_over(lock: Lock) -> Judged
     ensures { λ j. ⌜ j ≡ passedOver lock ⌝ }
 {
-    Judged {
+    let blocks = Blocks {
         good: 0,
         bad: 0,
+        remainder: 0,
+    };
+    Judged {
+        blocks,
         passed: 1,
         lock,
     }
@@ -79,7 +97,10 @@ fn hunt(read: Read) -> Judged
 {
     match read {
         Read::Block { code: _, word: _ } => good_block(lock_of(1, 1, 0, no_time())),
-        Read::Refused(_) => passed_over(fresh_lock()),
+        Read::Refused {
+            refusal: _,
+            remainder: _,
+        } => passed_over(fresh_lock()),
     }
 }
 
@@ -94,7 +115,10 @@ fn try_on(good: u8, read: Read) -> Judged
                 good_block(lock_of(2, 0, 0, no_time()))
             }
         }
-        Read::Refused(_) => bad_block(fresh_lock()),
+        Read::Refused {
+            refusal: _,
+            remainder,
+        } => bad_block(remainder, fresh_lock()),
     }
 }
 
@@ -105,11 +129,14 @@ fn hold_on(bad: u8, time: Time, read: Read) -> Judged
     let none = no_time();
     match read {
         Read::Block { code: _, word: _ } => good_block(lock_of(2, 0, 0, next)),
-        Read::Refused(_) => {
+        Read::Refused {
+            refusal: _,
+            remainder,
+        } => {
             if bad < 3 {
-                bad_block(lock_of(2, 0, bad + 1, next))
+                bad_block(remainder, lock_of(2, 0, bad + 1, next))
             } else {
-                bad_block(lock_of(0, 0, 0, none))
+                bad_block(remainder, lock_of(0, 0, 0, none))
             }
         }
     }

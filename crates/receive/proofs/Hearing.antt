@@ -11,6 +11,7 @@ use lib.ListN.{length, take, drop, length-drop, take-append-drop}
 use lib.Seq.{drop-drop}
 use Rattle.block.specs.Bits.{Bits}
 use Rattle.block.proofs.Strings.{bits-drop, rest-whole}
+use Rattle.locking.specs.Modes.{noBlocks}
 use Rattle.receiver.specs.declared.Ran.{Ran}
 use Rattle.receiver.specs.declared.State.{State}
 use Rattle.receiver.specs.Steps.{Step, stepOf}
@@ -133,7 +134,7 @@ next-fits k b =
       passed = mod-lt _ (omega arith);
     }
 
-total-nothing : (k : Kept) → Fitting k → packedProper (k .state) ≡ true → totalled k (runFrom [] 0 0 0 (unpacked (k .state))) 0 ≡ k
+total-nothing : (k : Kept) → Fitting k → packedProper (k .state) ≡ true → totalled k (runFrom [] noBlocks 0 (unpacked (k .state))) 0 ≡ k
 unfolding runFrom
 total-nothing k f p =
     rw (
@@ -145,12 +146,12 @@ total-nothing k f p =
     )
 
 pub after-run : (k : Kept) (bits : List ℕ) → (bits ≡ [] → Fitting k) → Bits bits → packedProper (k .state) ≡ true
-    → keptAfter k bits ≡ totalled k (runFrom bits 0 0 0 (unpacked (k .state))) (length bits)
+    → keptAfter k bits ≡ totalled k (runFrom bits noBlocks 0 (unpacked (k .state))) (length bits)
 unfolding keptAfter keptNext
 after-run k [] f h p = sym (total-nothing k (f refl) p)
 after-run k (b ∷ bits) f h p =
     let t : Step = stepOf (unpacked (k .state)) b in
-    let r : Ran = runFrom bits 0 0 0 (t .next) in
+    let r : Ran = runFrom bits noBlocks 0 (t .next) in
     let n : 1 + length bits ≡ length (b ∷ bits) = omega arith in
     after-run (keptNext k b) bits (λ _. next-fits k b) (h .1) (next-proper k b (h .0) p)
     ∙ rw (
@@ -158,8 +159,8 @@ after-run k (b ∷ bits) f h p =
       from-next b bits (unpacked (k .state)) (h .0),
       total-more (k .fed) 1 (length bits),
       n,
-      total-more (k .good) (t .good) (r .counts .good),
-      total-more (k .bad) (t .bad) (r .counts .bad),
+      total-more (k .good) (t .blocks .good) (r .counts .good),
+      total-more (k .bad) (t .blocks .bad) (r .counts .bad),
       total-more (k .passed) (t .passed) (r .counts .passed),
     )
 

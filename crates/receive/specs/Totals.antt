@@ -30,8 +30,8 @@ keptNext k b =
     let t : Step = stepOf (unpacked (k .state)) b in
     record {
       fed = total (k .fed) 1;
-      good = total (k .good) (t .good);
-      bad = total (k .bad) (t .bad);
+      good = total (k .good) (t .blocks .good);
+      bad = total (k .bad) (t .blocks .bad);
       passed = total (k .passed) (t .passed);
       state = packed (t .next);
     }

@@ -10,25 +10,27 @@ use Rattle.block.specs.Read.{readOf}
 use Rattle.refusal.specs.Numbers.{numberOf}
 use Rattle.refusal.specs.declared.Refusal.the-variants.{RunTooLong, Improper}
 use Rattle.timekeeping.proofs.Choices.{cond-elim}
+use Rattle.locking.specs.declared.Blocks.{Blocks}
 use Rattle.locking.specs.declared.Judged.{Judged}
+use Rattle.locking.specs.Modes.{noBlocks}
 use Rattle.locking.proofs.Choices.{judged-elim}
 use Rattle.receiver.specs.declared.Ran.{Ran}
 use Rattle.receiver.specs.declared.State.{State}
 use Rattle.receiver.specs.States.{lockIn, properOf}
 use Rattle.receiver.specs.Steps.{Step, stepOf}
-use Rattle.receiver.specs.Runs.{runFrom, runOf}
+use Rattle.receiver.specs.Runs.{plus, blocksIn, runFrom, runOf}
 use Rattle.receiver.specs.History.{bitsBefore}
 use Rattle.receiver.proofs.Choices.{filled, judges, step-elim}
 use Rattle.receiver.proofs.Room.{step-room}
 use Rattle.receiver.proofs.StaysProper.{room}
 
 -- so many bits are fifty for each block, those passed over and those that wait
-abbrev pub MadeUp : ℕ → ℕ → ℕ → ℕ → ℕ → Type 0
-MadeUp n good bad passed waiting = n ≡ 50 * (good + bad) + passed + waiting
+abbrev pub MadeUp : ℕ → Blocks → ℕ → ℕ → Type 0
+MadeUp n blocks passed waiting = n ≡ 50 * (blocks .good + blocks .bad) + passed + waiting
 
 -- so a step makes up the bits that waited before it, and its own
 abbrev Stepped : ℕ → Step → Type 0
-Stepped n t = MadeUp n (t .good) (t .bad) (t .passed) (t .next .waiting)
+Stepped n t = MadeUp n (t .blocks) (t .passed) (t .next .waiting)
 
 pub step-balance : (s : State) (b : ℕ) → s .waiting < 50 → Stepped (s .waiting + 1) (stepOf s b)
 step-balance s b h =
@@ -39,16 +41,16 @@ step-balance s b h =
 
 -- so for a run
 abbrev Balanced : ℕ → Ran → Type 0
-Balanced n r = MadeUp n (r .counts .good) (r .counts .bad) (r .counts .passed) (r .counts .waiting)
+Balanced n r = MadeUp n (blocksIn (r .counts)) (r .counts .passed) (r .counts .waiting)
 
-from-balance : (bs : List ℕ) (good bad passed : ℕ) (s : State) → s .waiting < 50
-    → Balanced (s .waiting + length (bitsBefore bs) + 50 * (good + bad) + passed) (runFrom bs good bad passed s)
+from-balance : (bs : List ℕ) (blocks : Blocks) (passed : ℕ) (s : State) → s .waiting < 50
+    → Balanced (s .waiting + length (bitsBefore bs) + 50 * (blocks .good + blocks .bad) + passed) (runFrom bs blocks passed s)
 unfolding runFrom bitsBefore
-from-balance [] good bad passed s h = omega arith
-from-balance (b ∷ bs) good bad passed s h =
+from-balance [] blocks passed s h = omega arith
+from-balance (b ∷ bs) blocks passed s h =
     let t : Step = stepOf s b in
-    cond-elim (Balanced (s .waiting + length (bitsBefore (b ∷ bs)) + 50 * (good + bad) + passed)) (ltb b 2)
-    (λ e. rw e (omega (arith, step-balance s b h, from-balance bs (good + t .good) (bad + t .bad) (passed + t .passed) (t .next) (step-room s b))))
+    cond-elim (Balanced (s .waiting + length (bitsBefore (b ∷ bs)) + 50 * (blocks .good + blocks .bad) + passed)) (ltb b 2)
+    (λ e. rw e (omega (arith, step-balance s b h, from-balance bs (plus blocks (t .blocks)) (passed + t .passed) (t .next) (step-room s b))))
     (λ e. rw e (omega arith))
 
 -- unless the run is refused with 9 or 10, what waited and what was fed balance with what it counts
@@ -59,4 +61,4 @@ balance s bs =
     let P : Ran → Type 0 = λ r. (r .counts .refusal ≡ numberOf RunTooLong → ⊥) → (r .counts .refusal ≡ numberOf Improper → ⊥)
     → Balanced (s .waiting + length (bitsBefore bs)) r in
     cond-elim P (ltb 65536 (length bs)) (λ _ long _. absurd (long refl))
-    (λ _. cond-elim P (properOf s) (λ e _ _. omega (arith, from-balance bs 0 0 0 s (room s e))) (λ _ _ improper. absurd (improper refl)))
+    (λ _. cond-elim P (properOf s) (λ e _ _. omega (arith, from-balance bs noBlocks 0 s (room s e))) (λ _ _ improper. absurd (improper refl)))

@@ -14,7 +14,9 @@ use Rattle.block.specs.Bits.{Bits}
 use Rattle.block.proofs.Strings.{bits-take}
 use Rattle.refusal.specs.declared.Refusal.the-variants.{RunTooLong, Improper}
 use Rattle.timekeeping.proofs.Choices.{cond-elim}
+use Rattle.locking.specs.declared.Blocks.{Blocks}
 use Rattle.locking.specs.Locks.{locked}
+use Rattle.locking.specs.Modes.{noBlocks}
 use Rattle.receiver.specs.declared.PackedState.{PackedState}
 use Rattle.receiver.specs.declared.State.{State}
 use Rattle.receiver.specs.declared.Stretch.{Stretch}
@@ -54,7 +56,7 @@ change-bits s bs h = rw (change-first s bs) at (bits-take (length (toChange s bs
 
 -- a run within the limit, from a proper state
 pub stretch-is : (stop : Bool) (p : PackedState) (bs : List ℕ) → length bs ≤ 65536 → packedProper p ≡ true
-    → stretchOf stop p bs ≡ stretchFrom (upTo stop (unpacked p) bs) 0 0 0 0 (unpacked p)
+    → stretchOf stop p bs ≡ stretchFrom (upTo stop (unpacked p) bs) 0 noBlocks 0 (unpacked p)
 unfolding stretchOf
 stretch-is stop p bs h e =
     let s : State = unpacked p in
@@ -108,15 +110,15 @@ module _ (s : State) (b : ℕ) (bs : List ℕ) where
       by true false h = absurd (omega arith)
       by false same h = absurd (omega arith)
 
-from-unchanged : (bs : List ℕ) (n good bad passed : ℕ) (s : State) → n < length (bitsBefore (toChange s bs))
-    → sameLock (s .mode) (runFrom (take n bs) good bad passed s .state .mode) ≡ true
+from-unchanged : (bs : List ℕ) (n : ℕ) (blocks : Blocks) (passed : ℕ) (s : State) → n < length (bitsBefore (toChange s bs))
+    → sameLock (s .mode) (runFrom (take n bs) blocks passed s .state .mode) ≡ true
 unfolding runFrom toChange bitsBefore
-from-unchanged [] n good bad passed s h = absurd (omega arith)
-from-unchanged (b ∷ bs) zero good bad passed s h = same-lock (s .mode)
-from-unchanged (b ∷ bs) (suc n) good bad passed s h =
+from-unchanged [] n blocks passed s h = absurd (omega arith)
+from-unchanged (b ∷ bs) zero blocks passed s h = same-lock (s .mode)
+from-unchanged (b ∷ bs) (suc n) blocks passed s h =
     let t : Step = stepOf s b in
     let on = fed-on s b bs n h in
-    rw (on .0) (same-on (s .mode) (t .next .mode) _ (on .1) ∙ from-unchanged bs n _ _ _ (t .next) (on .2))
+    rw (on .0) (same-on (s .mode) (t .next .mode) _ (on .1) ∙ from-unchanged bs n _ _ (t .next) (on .2))
 
 -- after any shorter part of the bits fed, the state is locked exactly if it was at the start
 pub unchanged : (p : PackedState) (bs : List ℕ) (n : ℕ) → n < runToChange p bs .fed → sameLock (p .mode) (runOf (unpacked p) (take n bs) .state .mode) ≡ true
@@ -125,33 +127,33 @@ unchanged p bs n =
     (λ h. absurd (omega arith)) (λ h. absurd (omega arith))
     (λ limit e h.
     rw (run-is (unpacked p) (take n bs) (omega (arith, length-take n bs)) (proper-unpacked p e .proper))
-    (from-unchanged bs n 0 0 0 (unpacked p) (rw (stretch-is true p bs limit e, zero-add) at h)))
+    (from-unchanged bs n noBlocks 0 (unpacked p) (rw (stretch-is true p bs limit e, zero-add) at h)))
 
 -- the first bit of a run that is not refused is one
-first-bit : (b : ℕ) (bs : List ℕ) (good bad passed : ℕ) (s : State) → runFrom (b ∷ bs) good bad passed s .counts .refusal ≡ 0 → ltb b 2 ≡ true
+first-bit : (b : ℕ) (bs : List ℕ) (blocks : Blocks) (passed : ℕ) (s : State) → runFrom (b ∷ bs) blocks passed s .counts .refusal ≡ 0 → ltb b 2 ≡ true
 unfolding runFrom
-first-bit b bs good bad passed s e = by (ltb b 2) refl
+first-bit b bs blocks passed s e = by (ltb b 2) refl
   where
     by : (bit : Bool) → ltb b 2 ≡ bit → bit ≡ true
     by true k = refl
     by false k = let z : _≡_ {A = ℕ} 1 0 = rw k at e in absurd (omega arith)
 
-from-changed : (bs : List ℕ) (good bad passed : ℕ) (s : State) → runFrom (toChange s bs) good bad passed s .counts .refusal ≡ 0
-    → length (bitsBefore (toChange s bs)) < length bs → sameLock (s .mode) (runFrom (toChange s bs) good bad passed s .state .mode) ≡ false
+from-changed : (bs : List ℕ) (blocks : Blocks) (passed : ℕ) (s : State) → runFrom (toChange s bs) blocks passed s .counts .refusal ≡ 0
+    → length (bitsBefore (toChange s bs)) < length bs → sameLock (s .mode) (runFrom (toChange s bs) blocks passed s .state .mode) ≡ false
 unfolding runFrom toChange bitsBefore
-from-changed [] good bad passed s e h = absurd (omega arith)
-from-changed (b ∷ bs) good bad passed s e h =
+from-changed [] blocks passed s e h = absurd (omega arith)
+from-changed (b ∷ bs) blocks passed s e h =
     let t : Step = stepOf s b in
     let same : Bool = sameLock (s .mode) (t .next .mode) in
-    let bit = first-bit b (cond same (toChange (t .next) bs) []) good bad passed s e in
+    let bit = first-bit b (cond same (toChange (t .next) bs) []) blocks passed s e in
     by bit same refl
     (λ l.
     rw (l, bit)
-    (same-on (s .mode) (t .next .mode) _ l ∙ from-changed bs _ _ _ (t .next) (rw (l, bit) at e) (omega (arith, rw (l, bit) at h))))
+    (same-on (s .mode) (t .next .mode) _ l ∙ from-changed bs _ _ (t .next) (rw (l, bit) at e) (omega (arith, rw (l, bit) at h))))
   where
     by : ltb b 2 ≡ true → (same : Bool) → sameLock (s .mode) (stepOf s b .next .mode) ≡ same
-        → (sameLock (s .mode) (stepOf s b .next .mode) ≡ true → sameLock (s .mode) (runFrom (toChange s (b ∷ bs)) good bad passed s .state .mode) ≡ false)
-        → sameLock (s .mode) (runFrom (toChange s (b ∷ bs)) good bad passed s .state .mode) ≡ false
+        → (sameLock (s .mode) (stepOf s b .next .mode) ≡ true → sameLock (s .mode) (runFrom (toChange s (b ∷ bs)) blocks passed s .state .mode) ≡ false)
+        → sameLock (s .mode) (runFrom (toChange s (b ∷ bs)) blocks passed s .state .mode) ≡ false
     by bit true l on = on l
     by bit false l on = rw (l, bit, l)
 
@@ -161,16 +163,16 @@ pub changed : (p : PackedState) (bs : List ℕ) → runToChange p bs .ran .count
 changed p bs =
     stretch-elim (λ (r : Stretch). r .ran .counts .refusal ≡ 0 → r .fed < length bs → sameLock (p .mode) (r .ran .state .mode) ≡ false) true p bs
     (λ e. absurd (omega arith)) (λ e. absurd (omega arith))
-    (λ limit e. rw (stretch-is true p bs limit e, zero-add) (from-changed bs 0 0 0 (unpacked p)))
+    (λ limit e. rw (stretch-is true p bs limit e, zero-add) (from-changed bs noBlocks 0 (unpacked p)))
 
 -- ---- what is fed
 
-all-before : (xs : List ℕ) (good bad passed : ℕ) (s : State) → runFrom xs good bad passed s .counts .refusal ≡ 0 → bitsBefore xs ≡ xs
+all-before : (xs : List ℕ) (blocks : Blocks) (passed : ℕ) (s : State) → runFrom xs blocks passed s .counts .refusal ≡ 0 → bitsBefore xs ≡ xs
 unfolding runFrom bitsBefore
-all-before [] good bad passed s e = refl
-all-before (b ∷ bs) good bad passed s e =
-    let bit = first-bit b bs good bad passed s e in
-    rw bit (ap (λ (l : List ℕ). b ∷ l) (all-before bs _ _ _ (stepOf s b .next) (rw bit at e)))
+all-before [] blocks passed s e = refl
+all-before (b ∷ bs) blocks passed s e =
+    let bit = first-bit b bs blocks passed s e in
+    rw bit (ap (λ (l : List ℕ). b ∷ l) (all-before bs _ _ (stepOf s b .next) (rw bit at e)))
 
 -- where no bit was refused, it is the run of the first bits, as many as were fed
 pub first-run : (p : PackedState) (bs : List ℕ) → runToChange p bs .ran .counts .refusal ≡ 0
@@ -182,16 +184,16 @@ first-run p bs =
     (λ limit f.
     rw (stretch-is true p bs limit f, zero-add)
     (λ e.
-    rw (all-before (toChange s bs) 0 0 0 s e, change-first s bs)
+    rw (all-before (toChange s bs) noBlocks 0 s e, change-first s bs)
     (sym (ap packedRan (run-is s (toChange s bs) (omega (arith, change-length s bs)) (proper-unpacked p f .proper))))))
 
 -- bits within the limit, given to a proper state, are not refused: those up to the change are fed, and at least one is
 pub bits-taken : (p : PackedState) (bs : List ℕ) → packedProper p ≡ true → Bits bs → length bs ≤ 65536
-    → runToChange p bs ≡ withFed (packedRan (runFrom (toChange (unpacked p) bs) 0 0 0 (unpacked p))) (length (toChange (unpacked p) bs))
+    → runToChange p bs ≡ withFed (packedRan (runFrom (toChange (unpacked p) bs) noBlocks 0 (unpacked p))) (length (toChange (unpacked p) bs))
 bits-taken p bs e h limit =
     let s : State = unpacked p in
-    let taken = from-bits (toChange s bs) 0 0 0 s (change-bits s bs h) in
-    rw (stretch-is true p bs limit e, zero-add, all-before (toChange s bs) 0 0 0 s (taken .0))
+    let taken = from-bits (toChange s bs) noBlocks 0 s (change-bits s bs h) in
+    rw (stretch-is true p bs limit e, zero-add, all-before (toChange s bs) noBlocks 0 s (taken .0))
 
 pub one-fed : (p : PackedState) (b : ℕ) (bs : List ℕ) → packedProper p ≡ true → b < 2 → length (b ∷ bs) ≤ 65536 → 1 ≤ runToChange p (b ∷ bs) .fed
 unfolding toChange bitsBefore

@@ -9,7 +9,7 @@ use lib.ListN.{set}
 use Rattle.block.specs.Read.{readOf}
 use Rattle.timekeeping.proofs.Choices.{cond-elim}
 use Rattle.locking.specs.declared.Judged.{Judged}
-use Rattle.locking.specs.Modes.{judgedBy}
+use Rattle.locking.specs.Modes.{noBlocks, judgedBy}
 use Rattle.receiver.specs.declared.State.{State}
 use Rattle.receiver.specs.States.{stateOf, lockIn}
 use Rattle.receiver.specs.Steps.{Step, waitingAfter, bitsAfter, judgedStep, stepOf}
@@ -20,11 +20,11 @@ filled s b = set (s .bits) (s .waiting) b
 
 -- the step of a bit that only waits
 abbrev pub waits : State → List ℕ → Step
-waits s w = record { good = 0; bad = 0; passed = 0; next = stateOf (lockIn s) (s .waiting + 1) w }
+waits s w = record { blocks = noBlocks; passed = 0; next = stateOf (lockIn s) (s .waiting + 1) w }
 
 -- the step of a judgement
 abbrev pub judges : List ℕ → Judged → Step
-judges w j = record { good = j .good; bad = j .bad; passed = j .passed; next = stateOf (j .lock) (waitingAfter j) (bitsAfter j w) }
+judges w j = record { blocks = j .blocks; passed = j .passed; next = stateOf (j .lock) (waitingAfter j) (bitsAfter j w) }
 
 -- a bit waits, or it fills the window, which is judged
 pub step-elim : (P : Step → Type 0) (s : State) (b : ℕ) → (s .waiting < 49 → P (waits s (filled s b)))

@@ -14,7 +14,7 @@ use Rattle.block.specs.Packed.{readBy}
 use Rattle.block.specs.Read.{readOf}
 use Rattle.block.proofs.Reading.{number-reads}
 use Rattle.block.proofs.Stream.{in-front, off-the-front}
-use Rattle.block.proofs.Strings.{bits-bitsOf, rem-lt}
+use Rattle.block.proofs.Strings.{thirteen}
 use Rattle.block.proofs.Xor.{xor-eq}
 use Rattle.locking.specs.Modes.{isGood}
 use Rattle.receiver.specs.declared.windows.Window.{Window}
@@ -54,11 +54,8 @@ module _ (n r : ℕ) (h : n < 2 ^ 50) (e : r ≡ remainder (bitsOf 50 n)) where
       rw (← number-reads n h, le-leb (2 ^ 49) n k, eq-eqb (remainder (bitsOf 49 n)) 0 (sym (behind-1 k) ∙ ap (λ (q : ℕ). bitXor q first) d ∙ xor-self first))
 
   -- so the first bit above the register tells it
-  thirteen : r < 8192
-  thirteen = rw e (rem-lt (bitsOf 50 n) 0 (omega arith) (bits-bitsOf 50 n))
-
   pub is-good : n / 2 ^ 49 * 8192 + r ≡ 8192 + first → isGood (readOf (bitsOf 50 n)) ≡ true
-  is-good d = let t = thirteen in same (omega arith) (omega arith)
+  is-good d = let t = thirteen 50 n e in same (omega arith) (omega arith)
 
   pub is-not : (n / 2 ^ 49 * 8192 + r ≡ 8192 + first → ⊥) → isGood (readOf (bitsOf 50 n)) ≡ false
   is-not d = by (ltb n (2 ^ 49)) refl

@@ -14,6 +14,7 @@ use Rattle.refusal.specs.declared.Refusal.{Refusal}
 use Rattle.block.proofs.Packing.{Packs, fifty-lt, not-refused, packs-bits}
 use Rattle.block.proofs.Strings.{val-bitsOf, bitsOf-val, length-bitsOf}
 use Rattle.timekeeping.proofs.Choices.{cond-elim}
+use Rattle.locking.specs.Modes.{noBlocks}
 use Rattle.receiver.specs.declared.PackedRan.{PackedRan}
 use Rattle.receiver.specs.declared.PackedState.{PackedState}
 use Rattle.receiver.specs.declared.Ran.{Ran}
@@ -59,7 +60,7 @@ run-fifty s bs f =
     let P : Ran → Type 0 = λ r. FiftyBits (r .state) in
     cond-elim P (ltb 65536 (length bs)) (λ _. f)
     (λ _.
-    cond-elim P (properOf s) (λ e. proper-fifty _ (from-proper bs 0 0 0 s (record { places = f .places; proper = e }))) (λ _. f))
+    cond-elim P (properOf s) (λ e. proper-fifty _ (from-proper bs noBlocks 0 s (record { places = f .places; proper = e }))) (λ _. f))
 
 pub fresh-packed : freshPacked ≡ packed freshOf
 unfolding freshOf valueFrom

@@ -1,9 +1,11 @@
 -- The laws, in reading order.
 pub mod Choices
+pub mod Adding
 pub mod Room
 pub mod StaysProper
 pub mod Balance
 pub mod Together
+pub mod Told
 pub mod LostLock
 pub mod WholeHistory
 pub mod EndOfHistory

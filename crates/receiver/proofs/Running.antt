@@ -7,13 +7,13 @@ use mathlib.Core.Path.{_≡_, refl}
 use Prim.Native.Nat.{ℕ, _+_, _<_, _≤_}
 use native.Mathlib.Nat.{add-zero, add-suc, suc-add}
 use native.Mathlib.Numerals.{add-one}
-use native.Mathlib.Omega.{arith}
 use borrow.Author.Tests.{lt-ltb, le-ltb}
 use lib.Dec.{eqb}
 use lib.ListN.{set}
 use Rattle.block.specs.Read.{readOf}
 use Rattle.refusal.specs.Numbers.{numberOf}
 use Rattle.refusal.specs.declared.Refusal.the-variants.{NotABit}
+use Rattle.locking.specs.declared.Blocks.{Blocks}
 use Rattle.locking.specs.declared.Judged.{Judged}
 use Rattle.locking.specs.declared.Lock.{Lock}
 use Rattle.locking.specs.Locks.{locked}
@@ -22,15 +22,16 @@ use Rattle.receiver.specs.declared.State.{State}
 use Rattle.receiver.specs.declared.Stretch.{Stretch}
 use Rattle.receiver.specs.States.{stateOf}
 use Rattle.receiver.specs.Steps.{Step, stepOf, judgedStep}
-use Rattle.receiver.specs.Runs.{ended, runFrom}
+use Rattle.receiver.specs.Runs.{plus, ended, runFrom}
 use Rattle.receiver.specs.History.{bitsBefore}
 use Rattle.receiver.specs.Packed.{packedRan}
 use Rattle.receiver.specs.Changes.{sameLock, toChange, upTo, withFed, stretchFrom}
+use Rattle.receiver.proofs.Adding.{plus-none}
 use Rattle.receiver.proofs.Choices.{waits, judges}
 
 -- a run of what is left, with what was fed and counted before
-abbrev pub goesOn : Bool → List ℕ → ℕ → ℕ → ℕ → ℕ → State → Stretch
-goesOn stop bs fed good bad passed s = stretchFrom (upTo stop s bs) fed good bad passed s
+abbrev pub goesOn : Bool → List ℕ → ℕ → Blocks → ℕ → State → Stretch
+goesOn stop bs fed blocks passed s = stretchFrom (upTo stop s bs) fed blocks passed s
 
 pub same-lock : (m : ℕ) → sameLock m m ≡ true
 unfolding sameLock
@@ -75,41 +76,38 @@ stopped true true test d e = (refl, cc)
 stopped true false test d e = (refl, refl)
 stopped false same test d e = (cc, cc)
 
-module _ (stop : Bool) (fed good bad passed : ℕ) (s : State) where
-  pub on-done : goesOn stop [] fed good bad passed s ≡ withFed (packedRan (ended 0 good bad passed s)) fed
+module _ (stop : Bool) (fed : ℕ) (blocks : Blocks) (passed : ℕ) (s : State) where
+  pub on-done : goesOn stop [] fed blocks passed s ≡ withFed (packedRan (ended 0 blocks passed s)) fed
   unfolding runFrom bitsBefore toChange
   on-done = by stop
     where
-      by : (stop : Bool) → goesOn stop [] fed good bad passed s ≡ withFed (packedRan (ended 0 good bad passed s)) fed
+      by : (stop : Bool) → goesOn stop [] fed blocks passed s ≡ withFed (packedRan (ended 0 blocks passed s)) fed
       by true = simp add-zero
       by false = simp add-zero
 
   module _ (b : ℕ) (bs : List ℕ) where
-    pub on-stops : 2 ≤ b → goesOn stop (b ∷ bs) fed good bad passed s ≡ withFed (packedRan (ended (numberOf NotABit) good bad passed s)) fed
+    pub on-stops : 2 ≤ b → goesOn stop (b ∷ bs) fed blocks passed s ≡ withFed (packedRan (ended (numberOf NotABit) blocks passed s)) fed
     unfolding runFrom bitsBefore
     on-stops h = rw (up-first stop s b bs .1, le-ltb b 2 h, add-zero)
 
     -- one bit, and what is left behind it
     on-steps : b < 2 → (t : Step) → t ≡ stepOf s b → (rest : List ℕ) → upTo stop s (b ∷ bs) ≡ b ∷ rest
-        → goesOn stop (b ∷ bs) fed good bad passed s ≡ stretchFrom rest (fed + 1) (good + t .good) (bad + t .bad) (passed + t .passed) (t .next)
+        → goesOn stop (b ∷ bs) fed blocks passed s ≡ stretchFrom rest (fed + 1) (plus blocks (t .blocks)) (passed + t .passed) (t .next)
     unfolding runFrom bitsBefore
     on-steps h t e rest left = rw (left, e, lt-ltb b 2 h, add-one, suc-add, add-suc)
 
-module _ (stop : Bool) (fed good bad passed b : ℕ) (bs : List ℕ) (bit : b < 2) (l : Lock) (w : ℕ) (window : List ℕ) where
+module _ (stop : Bool) (fed : ℕ) (blocks : Blocks) (passed b : ℕ) (bs : List ℕ) (bit : b < 2) (l : Lock) (w : ℕ) (window : List ℕ) where
   waiting : w < 49 → waits (stateOf l w window) (set window w b) ≡ stepOf (stateOf l w window) b
   unfolding stepOf
   waiting m = rw (lt-ltb w 49 m)
 
   pub on-waits : w < 49
-      → goesOn stop (b ∷ bs) fed good bad passed (stateOf l w window)
-      ≡ goesOn stop bs (fed + 1) good bad passed (stateOf l (w + 1) (set window w b))
+      → goesOn stop (b ∷ bs) fed blocks passed (stateOf l w window)
+      ≡ goesOn stop bs (fed + 1) blocks passed (stateOf l (w + 1) (set window w b))
   on-waits m =
-      let g : good + 0 ≡ good = omega arith in
-      let d : bad + 0 ≡ bad = omega arith in
-      let p : passed + 0 ≡ passed = omega arith in
       let s : State = stateOf l w window in
-      rw (← waiting m, g, d, p)
-      at (on-steps stop fed good bad passed s b bs bit (stepOf s b) refl _ (up-on stop s b bs (λ _. rw (← waiting m) (same-lock (l .mode)))))
+      rw (← waiting m, plus-none blocks, add-zero passed)
+      at (on-steps stop fed blocks passed s b bs bit (stepOf s b) refl _ (up-on stop s b bs (λ _. rw (← waiting m) (same-lock (l .mode)))))
 
   module _ (m : 49 ≤ w) (j : Judged) (e : j ≡ judgedBy l (readOf (set window w b))) where
     judgement : judges (set window w b) j ≡ stepOf (stateOf l w window) b
@@ -117,18 +115,18 @@ module _ (stop : Bool) (fed good bad passed b : ℕ) (bs : List ℕ) (bit : b < 
     judgement = rw (e, le-ltb w 49 m)
 
     pub on-judges : (stop ≡ true → sameLock (l .mode) (j .lock .mode) ≡ true)
-        → goesOn stop (b ∷ bs) fed good bad passed (stateOf l w window)
-        ≡ goesOn stop bs (fed + 1) (good + j .good) (bad + j .bad) (passed + j .passed) (judges (set window w b) j .next)
+        → goesOn stop (b ∷ bs) fed blocks passed (stateOf l w window)
+        ≡ goesOn stop bs (fed + 1) (plus blocks (j .blocks)) (passed + j .passed) (judges (set window w b) j .next)
     on-judges same =
         let s : State = stateOf l w window in
         rw (← judgement)
-        at (on-steps stop fed good bad passed s b bs bit (stepOf s b) refl _ (up-on stop s b bs (λ k. rw (← judgement) (same k))))
+        at (on-steps stop fed blocks passed s b bs bit (stepOf s b) refl _ (up-on stop s b bs (λ k. rw (← judgement) (same k))))
 
     pub on-ends : stop ≡ true → sameLock (l .mode) (j .lock .mode) ≡ false
-        → goesOn stop (b ∷ bs) fed good bad passed (stateOf l w window)
-        ≡ withFed (packedRan (ended 0 (good + j .good) (bad + j .bad) (passed + j .passed) (judges (set window w b) j .next))) (fed + 1)
+        → goesOn stop (b ∷ bs) fed blocks passed (stateOf l w window)
+        ≡ withFed (packedRan (ended 0 (plus blocks (j .blocks)) (passed + j .passed) (judges (set window w b) j .next))) (fed + 1)
     unfolding runFrom bitsBefore
     on-ends k change =
         let s : State = stateOf l w window in
         rw (← judgement, add-zero)
-        at (on-steps stop fed good bad passed s b bs bit (stepOf s b) refl [] (up-ends stop s b bs k (rw (← judgement) change)))
+        at (on-steps stop fed blocks passed s b bs bit (stepOf s b) refl [] (up-ends stop s b bs k (rw (← judgement) change)))

@@ -10,14 +10,13 @@ use borrow.Author.Tests.{ltb-true, lt-ltb}
 use lib.Dec.{eqb, ltb}
 use lib.ListN.{length, set, drop}
 use Rattle.block.specs.Read.{readOf}
-use Rattle.block.specs.declared.Read.the-variants as read
-use Rattle.record.specs.Words as words
 use Rattle.timekeeping.specs.Proper.{isNoTime, isZeroRecord}
 use Rattle.timekeeping.proofs.Choices.{cond-elim}
+use Rattle.locking.specs.declared.Blocks.{Blocks}
 use Rattle.locking.specs.declared.Judged.{Judged}
 use Rattle.locking.specs.declared.Lock.{Lock}
 use Rattle.locking.specs.Locks.{lockProper}
-use Rattle.locking.specs.Modes.{judgedBy}
+use Rattle.locking.specs.Modes.{noBlocks, judgedBy}
 use Rattle.locking.proofs.Choices.{judged-elim}
 use Rattle.locking.proofs.StaysProper.{Kept, judged-proper}
 use Rattle.receiver.specs.declared.Ran.{Ran}
@@ -91,18 +90,18 @@ step-proper s b bit p =
           (λ h. judged-state (lockIn s) (filled s b) (bits-and-lock s (p .proper) .1) (filled-places s b (p .places)) (full s p b bit h));
     }
 
-pub from-proper : (bs : List ℕ) (good bad passed : ℕ) (s : State) → Proper s → Proper (runFrom bs good bad passed s .state)
+pub from-proper : (bs : List ℕ) (blocks : Blocks) (passed : ℕ) (s : State) → Proper s → Proper (runFrom bs blocks passed s .state)
 unfolding runFrom
-from-proper [] good bad passed s p = p
-from-proper (b ∷ bs) good bad passed s p =
-    cond-elim (λ (r : Ran). Proper (r .state)) (ltb b 2) (λ c. from-proper bs _ _ _ (stepOf s b .next) (step-proper s b (ltb-true b 2 c) p)) (λ _. p)
+from-proper [] blocks passed s p = p
+from-proper (b ∷ bs) blocks passed s p =
+    cond-elim (λ (r : Ran). Proper (r .state)) (ltb b 2) (λ c. from-proper bs _ _ (stepOf s b .next) (step-proper s b (ltb-true b 2 c) p)) (λ _. p)
 
 -- so does a run, refused or not
 pub run-proper : (s : State) (bs : List ℕ) → Proper s → Proper (runOf s bs .state)
 unfolding runOf
 run-proper s bs p =
     cond-elim (λ (r : Ran). Proper (r .state)) (ltb 65536 (length bs)) (λ _. p)
-    (λ _. cond-elim (λ (r : Ran). Proper (r .state)) (properOf s) (λ _. from-proper bs 0 0 0 s p) (λ _. p))
+    (λ _. cond-elim (λ (r : Ran). Proper (r .state)) (properOf s) (λ _. from-proper bs noBlocks 0 s p) (λ _. p))
 
 pub fresh-proper : Proper freshOf
 unfolding freshOf properOf bitsProper lockProper isNoTime isZeroRecord

@@ -1,100 +1,107 @@
--- Runs one after the other are one run: the steps go on from the state reached, and the counts add up.
+-- Runs one after the other are one run: the steps go on from the state reached, the counts add up, and the later remainder stays.
 -- Assumes nothing.
 use Prim.Native.Nat.{ℕ, _+_, _≤_, _<_}
 use native.Mathlib.Nat.{add-assoc, add-zero, zero-add}
 use native.Mathlib.Omega.{arith}
-use mathlib.Core.Path.{_≡_, refl, sym, ap, _∙_}
-use mathlib.Core.Bool.{true}
+use mathlib.Core.Path.{_≡_, refl, sym, ap, ap₂, _∙_}
+use mathlib.Core.Bool.{true, cond}
 use mathlib.Core.List.{List, [], _∷_, _++_}
 use borrow.Author.Tests.{lt-ltb, le-ltb}
 use lib.Dec.{ltb}
 use lib.ListN.{length, length-append}
 use Rattle.block.specs.Bits.{Bits}
 use Rattle.refusal.specs.Numbers.{numberOf}
-use Rattle.refusal.specs.declared.Refusal.the-variants.{NotABit}
+use Rattle.refusal.specs.declared.Refusal.the-variants.{NotABit, Improper}
 use Rattle.timekeeping.proofs.Choices.{cond-elim}
+use Rattle.locking.specs.declared.Blocks.{Blocks}
+use Rattle.locking.specs.Modes.{noBlocks}
 use Rattle.receiver.specs.declared.Ran.{Ran}
 use Rattle.receiver.specs.declared.State.{State}
 use Rattle.receiver.specs.States.{properOf}
 use Rattle.receiver.specs.Steps.{Step, stepOf}
-use Rattle.receiver.specs.Runs.{countsOf, ended, runFrom, runOf, fedOf}
+use Rattle.receiver.specs.Runs.{plus, countsOf, blocksIn, ended, runFrom, refusedRun, runOf, fedOf}
+use Rattle.receiver.proofs.Adding.{none-plus, plus-assoc}
 use Rattle.receiver.proofs.StaysProper.{Proper, run-proper}
 
 -- one fed bit answers as a run of that bit alone
 pub fed-run : (s : State) (b : ℕ) → fedOf s b ≡ runOf s (b ∷ [])
 unfolding fedOf runOf runFrom
-fed-run s b = simp zero-add
+fed-run s b =
+    let t : Step = stepOf s b in
+    ap₂ (λ (n : Blocks) (p : ℕ). cond (properOf s) (cond (ltb b 2) (ended 0 n p (t .next)) (ended (numberOf NotABit) noBlocks 0 s)) (refusedRun (numberOf Improper) s))
+    (sym (none-plus (t .blocks))) (sym (zero-add (t .passed)))
 
 -- ---- the counts
 
 -- a run with more counted before it
-abbrev pub counted : ℕ → ℕ → ℕ → Ran → Ran
-counted good bad passed r =
+abbrev pub counted : Blocks → ℕ → Ran → Ran
+counted blocks passed r =
     record {
-      counts = countsOf (r .counts .refusal) (good + r .counts .good) (bad + r .counts .bad) (passed + r .counts .passed) (r .counts .waiting);
+      counts = countsOf (r .counts .refusal) (plus blocks (blocksIn (r .counts))) (passed + r .counts .passed) (r .counts .waiting);
       state = r .state;
     }
 
-from-counted : (bs : List ℕ) (g b p good bad passed : ℕ) (s : State) → runFrom bs (g + good) (b + bad) (p + passed) s ≡ counted g b p (runFrom bs good bad passed s)
+from-counted : (bs : List ℕ) (before : Blocks) (over : ℕ) (blocks : Blocks) (passed : ℕ) (s : State)
+    → runFrom bs (plus before blocks) (over + passed) s ≡ counted before over (runFrom bs blocks passed s)
 unfolding runFrom
-from-counted [] g b p good bad passed s = refl
-from-counted (x ∷ bs) g b p good bad passed s =
-    let t : Step = stepOf s x in
-    cond-elim (λ (r : Ran). runFrom (x ∷ bs) (g + good) (b + bad) (p + passed) s ≡ counted g b p r) (ltb x 2)
-    (λ e. rw (e, add-assoc g good (t .good), add-assoc b bad (t .bad), add-assoc p passed (t .passed)) (from-counted bs g b p _ _ _ (t .next)))
+from-counted [] before over blocks passed s = refl
+from-counted (b ∷ bs) before over blocks passed s =
+    let t : Step = stepOf s b in
+    cond-elim (λ (r : Ran). runFrom (b ∷ bs) (plus before blocks) (over + passed) s ≡ counted before over r) (ltb b 2)
+    (λ e. rw (e, plus-assoc before blocks (t .blocks), add-assoc over passed (t .passed)) (from-counted bs before over _ _ (t .next)))
     (λ e. rw e)
 
 -- ---- two strings
 
 -- a run of bits is not refused, and its count of those waiting is the state's
-pub from-bits : (xs : List ℕ) (good bad passed : ℕ) (s : State) → Bits xs
-    → (runFrom xs good bad passed s .counts .refusal ≡ 0) × (runFrom xs good bad passed s .counts .waiting ≡ runFrom xs good bad passed s .state .waiting)
+pub from-bits : (xs : List ℕ) (blocks : Blocks) (passed : ℕ) (s : State) → Bits xs
+    → (runFrom xs blocks passed s .counts .refusal ≡ 0) × (runFrom xs blocks passed s .counts .waiting ≡ runFrom xs blocks passed s .state .waiting)
 unfolding runFrom
-from-bits [] good bad passed s h = (refl, refl)
-from-bits (x ∷ xs) good bad passed s h = rw (lt-ltb x 2 (h .0)) (from-bits xs _ _ _ (stepOf s x .next) (h .1))
+from-bits [] blocks passed s h = (refl, refl)
+from-bits (x ∷ xs) blocks passed s h = rw (lt-ltb x 2 (h .0)) (from-bits xs _ _ (stepOf s x .next) (h .1))
 
 -- a run goes on with ys
 abbrev onwards : List ℕ → Ran → Ran
-onwards ys r = runFrom ys (r .counts .good) (r .counts .bad) (r .counts .passed) (r .state)
+onwards ys r = runFrom ys (blocksIn (r .counts)) (r .counts .passed) (r .state)
 
-from-append : (xs ys : List ℕ) (good bad passed : ℕ) (s : State) → Bits xs → runFrom (xs ++ ys) good bad passed s ≡ onwards ys (runFrom xs good bad passed s)
+from-append : (xs ys : List ℕ) (blocks : Blocks) (passed : ℕ) (s : State) → Bits xs → runFrom (xs ++ ys) blocks passed s ≡ onwards ys (runFrom xs blocks passed s)
 unfolding runFrom
-from-append [] ys good bad passed s h = refl
-from-append (x ∷ xs) ys good bad passed s h = rw (lt-ltb x 2 (h .0)) (from-append xs ys _ _ _ (stepOf s x .next) (h .1))
+from-append [] ys blocks passed s h = refl
+from-append (x ∷ xs) ys blocks passed s h = rw (lt-ltb x 2 (h .0)) (from-append xs ys _ _ (stepOf s x .next) (h .1))
 
-onwards-counted : (ys : List ℕ) (r : Ran) → onwards ys r ≡ counted (r .counts .good) (r .counts .bad) (r .counts .passed) (runFrom ys 0 0 0 (r .state))
-onwards-counted ys r = simp add-zero at (from-counted ys (r .counts .good) (r .counts .bad) (r .counts .passed) 0 0 0 (r .state))
+onwards-counted : (ys : List ℕ) (r : Ran) → onwards ys r ≡ counted (blocksIn (r .counts)) (r .counts .passed) (runFrom ys noBlocks 0 (r .state))
+onwards-counted ys r = simp add-zero at (from-counted ys (blocksIn (r .counts)) (r .counts .passed) noBlocks 0 (r .state))
 
 -- a run of bits is the step of the first and then the run of the others, with the counts of both
 pub from-next : (b : ℕ) (bs : List ℕ) (s : State) → b < 2
-    → runFrom (b ∷ bs) 0 0 0 s ≡ counted (stepOf s b .good) (stepOf s b .bad) (stepOf s b .passed) (runFrom bs 0 0 0 (stepOf s b .next))
+    → runFrom (b ∷ bs) noBlocks 0 s ≡ counted (stepOf s b .blocks) (stepOf s b .passed) (runFrom bs noBlocks 0 (stepOf s b .next))
 unfolding runFrom
 from-next b bs s h =
     let t : Step = stepOf s b in
-    rw (lt-ltb b 2 h) (simp zero-add (onwards-counted bs (ended 0 (t .good) (t .bad) (t .passed) (t .next))))
+    rw (lt-ltb b 2 h, none-plus (t .blocks), zero-add) (onwards-counted bs (ended 0 (t .blocks) (t .passed) (t .next)))
 
 -- a run within the limit, from a proper state
-pub run-is : (s : State) (bs : List ℕ) → length bs ≤ 65536 → properOf s ≡ true → runOf s bs ≡ runFrom bs 0 0 0 s
+pub run-is : (s : State) (bs : List ℕ) → length bs ≤ 65536 → properOf s ≡ true → runOf s bs ≡ runFrom bs noBlocks 0 s
 unfolding runOf
 run-is s bs h e = rw (le-ltb 65536 (length bs) h, e)
 
 -- a run with its refusal changed to that of a bit that is none
 abbrev pub stopped : Ran → Ran
-stopped r = record { counts = countsOf (numberOf NotABit) (r .counts .good) (r .counts .bad) (r .counts .passed) (r .counts .waiting); state = r .state }
+stopped r = record { counts = countsOf (numberOf NotABit) (blocksIn (r .counts)) (r .counts .passed) (r .counts .waiting); state = r .state }
 
 module _ (s : State) (xs ys : List ℕ) (p : Proper s) (h : Bits xs) (limit : length (xs ++ ys) ≤ 65536) where
-  first-is : runOf s xs ≡ runFrom xs 0 0 0 s
+  first-is : runOf s xs ≡ runFrom xs noBlocks 0 s
   first-is = run-is s xs (omega (arith, length-append xs ys)) (p .proper)
 
   both-are : runOf s (xs ++ ys) ≡ onwards ys (runOf s xs)
-  both-are = run-is s (xs ++ ys) limit (p .proper) ∙ from-append xs ys 0 0 0 s h ∙ ap (onwards ys) (sym first-is)
+  both-are = run-is s (xs ++ ys) limit (p .proper) ∙ from-append xs ys noBlocks 0 s h ∙ ap (onwards ys) (sym first-is)
 
   -- a run of two strings is the run of the first and then of the second, with the counts of both
-  pub together : runOf s (xs ++ ys) ≡ counted (runOf s xs .counts .good) (runOf s xs .counts .bad) (runOf s xs .counts .passed) (runOf (runOf s xs .state) ys)
+  pub together : runOf s (xs ++ ys) ≡ counted (blocksIn (runOf s xs .counts)) (runOf s xs .counts .passed) (runOf (runOf s xs .state) ys)
   together =
       let q : Proper (runOf s xs .state) = run-proper s xs p in
       both-are ∙ onwards-counted ys (runOf s xs)
-      ∙ ap (counted (runOf s xs .counts .good) (runOf s xs .counts .bad) (runOf s xs .counts .passed))
+      ∙ ap (counted (blocksIn (runOf s xs .counts)) (runOf s xs .counts .passed))
       (sym (run-is (runOf s xs .state) ys (omega (arith, length-append xs ys)) (q .proper)))
 
 -- a run refused with 1 is the run of the bits before the bad one
@@ -102,4 +109,4 @@ pub before-bad : (s : State) (xs : List ℕ) (b : ℕ) (ys : List ℕ) → Prope
 unfolding runFrom
 before-bad s xs b ys p h bad limit =
     both-are s xs (b ∷ ys) p h limit
-    ∙ rw (le-ltb b 2 bad, first-is s xs (b ∷ ys) p h limit, from-bits xs 0 0 0 s h .1)
+    ∙ rw (le-ltb b 2 bad, first-is s xs (b ∷ ys) p h limit, from-bits xs noBlocks 0 s h .1)

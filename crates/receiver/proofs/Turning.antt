@@ -19,18 +19,19 @@ use Rattle.block.specs.Read.{readOf}
 use Rattle.block.specs.declared.Read.{Read}
 use Rattle.block.proofs.Reading.{number-reads}
 use Rattle.block.proofs.Stream.{at-the-end, in-front}
-use Rattle.block.proofs.Strings.{bits-bitsOf, rem-lt}
+use Rattle.locking.specs.declared.Blocks.{Blocks}
 use Rattle.locking.specs.declared.Judged.{Judged}
 use Rattle.locking.specs.declared.Lock.{Lock}
 use Rattle.locking.specs.Locks.{hunting, lockProper}
-use Rattle.locking.specs.Modes.{isGood, passedOver, judgedBy}
+use Rattle.locking.specs.Modes.{noBlocks, isGood, passedOver, judgedBy}
 use Rattle.locking.proofs.Choices.{passes-over, uses-up}
 use Rattle.locking.proofs.NoTime.{hunting-fresh}
 use Rattle.receiver.specs.declared.PackedState.{PackedState}
 use Rattle.receiver.specs.States.{stateOf, lockIn}
-use Rattle.receiver.specs.Runs.{ended}
+use Rattle.receiver.specs.Runs.{plus, ended}
 use Rattle.receiver.specs.Packed.{packedOf, packed, unpacked, packedProper, packedRan}
 use Rattle.receiver.specs.Changes.{sameLock, withFed}
+use Rattle.receiver.proofs.Adding.{plus-none}
 use Rattle.receiver.proofs.StaysProper.{room, bits-and-lock}
 use Rattle.receiver.proofs.Numbers.{placesOf, joins, full, passes, used-up, raised-value, lowered, proper-number}
 use Rattle.receiver.proofs.Layouts.{proper-small, proper-unpacked}
@@ -38,19 +39,15 @@ use Rattle.receiver.proofs.Running.{goesOn, same-lock, on-waits, on-jud
 
 -- ---- the circuit
 
-module _ (w n : ℕ) where
-  pub register-lt : remainder (bitsOf w n) < 8192
-  register-lt = rem-lt (bitsOf w n) 0 (omega arith) (bits-bitsOf w n)
+module _ (w n b : ℕ) (bit : b < 2) where
+  pub one-more : n < 2 ^ w → n * 2 + b < 2 ^ (w + 1)
+  one-more h = rw (add-one, pow-suc) (omega arith)
 
-  module _ (b : ℕ) (bit : b < 2) where
-    pub one-more : n < 2 ^ w → n * 2 + b < 2 ^ (w + 1)
-    one-more h = rw (add-one, pow-suc) (omega arith)
+  pub has-room : w < 50 → n < 2 ^ w → n * 2 + b < 2 ^ 50
+  has-room k h = let e : w + 1 ≤ 50 = omega arith in omega (arith, one-more h, pow-mono e)
 
-    pub has-room : w < 50 → n < 2 ^ w → n * 2 + b < 2 ^ 50
-    has-room k h = let e : w + 1 ≤ 50 = omega arith in omega (arith, one-more h, pow-mono e)
-
-    pub turned : (r t : ℕ) → r ≡ remainder (bitsOf w n) → t ≡ stepBit r b → t ≡ remainder (bitsOf (w + 1) (n * 2 + b))
-    turned r t e d = d ∙ ap (λ (q : ℕ). stepBit q b) e ∙ sym (at-the-end w n b bit)
+  pub turned : (r t : ℕ) → r ≡ remainder (bitsOf w n) → t ≡ stepBit r b → t ≡ remainder (bitsOf (w + 1) (n * 2 + b))
+  turned r t e d = d ∙ ap (λ (q : ℕ). stepBit q b) e ∙ sym (at-the-end w n b bit)
 
 -- where nothing waits the register holds nothing
 pub nothing-in : 0 ≡ remainder (bitsOf 0 0)
@@ -85,7 +82,7 @@ module _ (p : PackedState) (e : packedProper p ≡ true) where
 
   -- the state taken apart and put together
   pub entered : {l : Lock} {w n : ℕ} → l ≡ lockIn (unpacked p) → w ≡ p .waiting → n ≡ p .bits / 2 ^ (50 - p .waiting) → (stop : Bool) (bits : List ℕ)
-      → goesOn stop bits 0 0 0 0 (stateOf l w (placesOf w n)) ≡ goesOn stop bits 0 0 0 0 (unpacked p)
+      → goesOn stop bits 0 noBlocks 0 (stateOf l w (placesOf w n)) ≡ goesOn stop bits 0 noBlocks 0 (unpacked p)
   entered el ew en stop bits = rw (el, ew, en, ← window-in .0)
 
 -- ---- a full window
@@ -107,19 +104,19 @@ module _ (l : Lock) (w : Read) (t : Bool) (e : t ≡ (eqb (l .mode) hunting && n
 -- ---- one bit
 
 -- what goes on from the same lock, number and counts is the same
-pub goes-same : (stop : Bool) (bs : List ℕ) (fed passed : ℕ) {l k : Lock} {w v n m g good b bad : ℕ} → l ≡ k → w ≡ v → n ≡ m → g ≡ good → b ≡ bad
-    → goesOn stop bs fed g b passed (stateOf l w (placesOf w n)) ≡ goesOn stop bs fed good bad passed (stateOf k v (placesOf v m))
-goes-same stop bs fed passed el ew en eg eb = rw (el, ew, en, eg, eb)
+pub goes-same : (stop : Bool) (bs : List ℕ) (fed passed : ℕ) {l k : Lock} {w v n m : ℕ} {a b : Blocks} → l ≡ k → w ≡ v → n ≡ m → a ≡ b
+    → goesOn stop bs fed a passed (stateOf l w (placesOf w n)) ≡ goesOn stop bs fed b passed (stateOf k v (placesOf v m))
+goes-same stop bs fed passed el ew en eb = rw (el, ew, en, eb)
 
-module _ (stop : Bool) (fed good bad passed b : ℕ) (bs : List ℕ) (bit : b < 2) (l : Lock) (w n v : ℕ) (d : v ≡ n * 2 + b) where
+module _ (stop : Bool) (fed : ℕ) (blocks : Blocks) (passed b : ℕ) (bs : List ℕ) (bit : b < 2) (l : Lock) (w n v : ℕ) (d : v ≡ n * 2 + b) where
   filled : w < 50 → set (placesOf w n) w b ≡ placesOf (w + 1) v
   filled h = rw d (joins w n b h bit)
 
   pub more-wait : w < 49
-      → goesOn stop (b ∷ bs) fed good bad passed (stateOf l w (placesOf w n)) ≡ goesOn stop bs (fed + 1) good bad passed (stateOf l (w + 1) (placesOf (w + 1) v))
+      → goesOn stop (b ∷ bs) fed blocks passed (stateOf l w (placesOf w n)) ≡ goesOn stop bs (fed + 1) blocks passed (stateOf l (w + 1) (placesOf (w + 1) v))
   more-wait h =
-      on-waits stop fed good bad passed b bs bit l w (placesOf w n) h
-      ∙ ap (λ (t : List ℕ). goesOn stop bs (fed + 1) good bad passed (stateOf l (w + 1) t)) (filled (omega arith))
+      on-waits stop fed blocks passed b bs bit l w (placesOf w n) h
+      ∙ ap (λ (t : List ℕ). goesOn stop bs (fed + 1) blocks passed (stateOf l (w + 1) t)) (filled (omega arith))
 
   module _ (h : w + 1 ≡ 50) (j : Judged) (e : j ≡ judgedBy l (readOf (bitsOf 50 v))) where
     window : set (placesOf w n) w b ≡ bitsOf 50 v
@@ -129,22 +126,22 @@ module _ (stop : Bool) (fed good bad passed b : ℕ) (bs : List ℕ) (bit : b < 
     judged = e ∙ sym (ap (λ (t : List ℕ). judgedBy l (readOf t)) window)
 
     pub goes-over : j ≡ passedOver l
-        → goesOn stop (b ∷ bs) fed good bad passed (stateOf l w (placesOf w n)) ≡ goesOn stop bs (fed + 1) good bad (passed + 1) (stateOf l 49 (placesOf 49 (v % 2 ^ 49)))
+        → goesOn stop (b ∷ bs) fed blocks passed (stateOf l w (placesOf w n)) ≡ goesOn stop bs (fed + 1) blocks (passed + 1) (stateOf l 49 (placesOf 49 (v % 2 ^ 49)))
     goes-over k =
-        rw (k, add-zero good, add-zero bad, window, passes v)
-        at (on-judges stop fed good bad passed b bs bit l w (placesOf w n) (omega arith) j judged (λ _. rw k (same-lock (l .mode))))
+        rw (k, plus-none blocks, window, passes v)
+        at (on-judges stop fed blocks passed b bs bit l w (placesOf w n) (omega arith) j judged (λ _. rw k (same-lock (l .mode))))
 
     module _ (k : j .passed ≡ 0) where
       pub goes-on : (stop ≡ true → sameLock (l .mode) (j .lock .mode) ≡ true)
-          → goesOn stop (b ∷ bs) fed good bad passed (stateOf l w (placesOf w n))
-          ≡ goesOn stop bs (fed + 1) (good + j .good) (bad + j .bad) passed (stateOf (j .lock) 0 (placesOf 0 0))
+          → goesOn stop (b ∷ bs) fed blocks passed (stateOf l w (placesOf w n))
+          ≡ goesOn stop bs (fed + 1) (plus blocks (j .blocks)) passed (stateOf (j .lock) 0 (placesOf 0 0))
       goes-on same =
           rw (k, add-zero passed, ← used-up)
-          at (on-judges stop fed good bad passed b bs bit l w (placesOf w n) (omega arith) j judged same)
+          at (on-judges stop fed blocks passed b bs bit l w (placesOf w n) (omega arith) j judged same)
 
       pub ends-here : stop ≡ true → sameLock (l .mode) (j .lock .mode) ≡ false
-          → goesOn stop (b ∷ bs) fed good bad passed (stateOf l w (placesOf w n))
-          ≡ withFed (packedRan (ended 0 (good + j .good) (bad + j .bad) passed (stateOf (j .lock) 0 (placesOf 0 0)))) (fed + 1)
+          → goesOn stop (b ∷ bs) fed blocks passed (stateOf l w (placesOf w n))
+          ≡ withFed (packedRan (ended 0 (plus blocks (j .blocks)) passed (stateOf (j .lock) 0 (placesOf 0 0)))) (fed + 1)
       ends-here stops change =
           rw (k, add-zero passed, ← used-up)
-          at (on-ends stop fed good bad passed b bs bit l w (placesOf w n) (omega arith) j judged stops change)
+          at (on-ends stop fed blocks passed b bs bit l w (placesOf w n) (omega arith) j judged stops change)

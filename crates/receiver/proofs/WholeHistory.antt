@@ -10,6 +10,8 @@ use lib.ListN.{length}
 use Rattle.block.specs.Bits.{Bits}
 use Rattle.block.proofs.Strings.{bits-append}
 use Rattle.timekeeping.proofs.Choices.{cond-elim}
+use Rattle.locking.specs.declared.Blocks.{Blocks}
+use Rattle.locking.specs.Modes.{noBlocks}
 use Rattle.receiver.specs.declared.Ran.{Ran}
 use Rattle.receiver.specs.declared.State.{State}
 use Rattle.receiver.specs.States.{freshOf, properOf}
@@ -36,16 +38,16 @@ unfolding bitsBefore
 before-bits [] = tt
 before-bits (b ∷ bs) = cond-elim Bits (ltb b 2) (λ e. (ltb-true b 2 e, before-bits bs)) (λ _. tt)
 
-from-after : (bs : List ℕ) (good bad passed : ℕ) (s : State) → runFrom bs good bad passed s .state ≡ afterFrom s (bitsBefore bs)
+from-after : (bs : List ℕ) (blocks : Blocks) (passed : ℕ) (s : State) → runFrom bs blocks passed s .state ≡ afterFrom s (bitsBefore bs)
 unfolding runFrom bitsBefore afterFrom
-from-after [] good bad passed s = refl
-from-after (b ∷ bs) good bad passed s =
-    cond-elim (λ (r : Ran). r .state ≡ afterFrom s (bitsBefore (b ∷ bs))) (ltb b 2) (λ e. rw e (from-after bs _ _ _ (stepOf s b .next))) (λ e. rw e)
+from-after [] blocks passed s = refl
+from-after (b ∷ bs) blocks passed s =
+    cond-elim (λ (r : Ran). r .state ≡ afterFrom s (bitsBefore (b ∷ bs))) (ltb b 2) (λ e. rw e (from-after bs _ _ (stepOf s b .next))) (λ e. rw e)
 
 run-after : (s : State) (bs : List ℕ) → properOf s ≡ true → runOf s bs .state ≡ afterFrom s (bitsFed bs)
 unfolding runOf bitsFed afterFrom
 run-after s bs p =
-    rw p (cond-elim (λ (r : Ran). r .state ≡ afterFrom s (bitsFed bs)) (ltb 65536 (length bs)) (λ e. rw e) (λ e. rw e (from-after bs 0 0 0 s)))
+    rw p (cond-elim (λ (r : Ran). r .state ≡ afterFrom s (bitsFed bs)) (ltb 65536 (length bs)) (λ e. rw e) (λ e. rw e (from-after bs noBlocks 0 s)))
 
 -- a run of bits within the limit feeds them all
 all-before : (l : List ℕ) → Bits l → bitsBefore l ≡ l

@@ -8,6 +8,7 @@ use lib.ListN.{length}
 use Rattle.refusal.specs.Numbers.{numberOf}
 use Rattle.refusal.specs.declared.Refusal.{Refusal}
 use Rattle.refusal.specs.declared.Refusal.the-variants.{RunTooLong, Improper}
+use Rattle.locking.specs.declared.Blocks.{Blocks}
 use Rattle.locking.specs.Locks.{locked}
 use Rattle.receiver.specs.declared.PackedRan.{PackedRan}
 use Rattle.receiver.specs.declared.PackedState.{PackedState}
@@ -38,8 +39,8 @@ abbrev pub withFed : PackedRan → ℕ → Stretch
 withFed ran fed = record { ran = ran; fed = fed }
 
 -- the bits one after the other, with what was fed and counted before; those before the first that is no bit are fed
-abbrev pub stretchFrom : List ℕ → ℕ → ℕ → ℕ → ℕ → State → Stretch
-stretchFrom bs fed good bad passed s = withFed (packedRan (runFrom bs good bad passed s)) (fed + length (bitsBefore bs))
+abbrev pub stretchFrom : List ℕ → ℕ → Blocks → ℕ → State → Stretch
+stretchFrom bs fed blocks passed s = withFed (packedRan (runFrom bs blocks passed s)) (fed + length (bitsBefore bs))
 
 -- refused before any bit is fed
 abbrev pub refusedStretch : Refusal → PackedState → Stretch

@@ -9,8 +9,10 @@ use Rattle.block.specs.Bits.{bitsOf, value}
 use Rattle.refusal.specs.Numbers.{numberOf}
 use Rattle.refusal.specs.declared.Refusal.the-variants.{RunTooLong, Improper}
 use Rattle.timekeeping.specs.Times.{timeOf}
+use Rattle.locking.specs.declared.Blocks.{Blocks}
 use Rattle.locking.specs.declared.Lock.{Lock}
 use Rattle.locking.specs.Locks.{lockOf, freshLock}
+use Rattle.locking.specs.Modes.{noBlocks}
 use Rattle.receiver.specs.declared.PackedRan.{PackedRan}
 use Rattle.receiver.specs.declared.PackedState.{PackedState}
 use Rattle.receiver.specs.declared.Ran.{Ran}
@@ -55,12 +57,12 @@ abbrev pub packedRan : Ran → PackedRan
 packedRan r = record { counts = r .counts; state = packed (r .state) }
 
 -- a run that ends here, with how many bits wait
-abbrev pub endedPacked : ℕ → ℕ → ℕ → ℕ → PackedState → PackedRan
-endedPacked refusal good bad passed p = record { counts = countsOf refusal good bad passed (p .waiting); state = p }
+abbrev pub endedPacked : ℕ → Blocks → ℕ → PackedState → PackedRan
+endedPacked refusal blocks passed p = record { counts = countsOf refusal blocks passed (p .waiting); state = p }
 
--- refused before any bit is fed: all counts are 0, and the state is as it was
+-- refused before any bit is fed: nothing is counted or told, and the state is as it was
 abbrev pub refusedPacked : ℕ → PackedState → PackedRan
-refusedPacked refusal p = record { counts = countsOf refusal 0 0 0 0; state = p }
+refusedPacked refusal p = record { counts = countsOf refusal noBlocks 0 0; state = p }
 
 -- a run longer than 65,536 gets 9, then a state that is not proper 10; else it is the run of the fifty places
 unfoldable pub runPacked : PackedState → List ℕ → PackedRan

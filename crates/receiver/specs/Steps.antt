@@ -7,15 +7,15 @@ use lib.Dec.{eqb, ltb}
 use lib.ListN.{drop, set}
 use Rattle.block.specs.Bits.{zeros}
 use Rattle.block.specs.Read.{readOf}
+use Rattle.locking.specs.declared.Blocks.{Blocks}
 use Rattle.locking.specs.declared.Judged.{Judged}
-use Rattle.locking.specs.Modes.{judgedBy}
+use Rattle.locking.specs.Modes.{noBlocks, judgedBy}
 use Rattle.receiver.specs.declared.State.{State}
 use Rattle.receiver.specs.States.{stateOf, lockIn}
 
 -- what one bit counts, and the state after it
 pub record Step : Type 0 where
-  pub good : ℕ
-  pub bad : ℕ
+  pub blocks : Blocks
   pub passed : ℕ
   pub next : State
 
@@ -30,10 +30,10 @@ bitsAfter j w = cond (eqb (j .passed) 1) (drop 1 w ++ (0 ∷ [])) (zeros 50)
 unfoldable pub judgedStep : State → List ℕ → Step
 judgedStep s w =
     let j : Judged = judgedBy (lockIn s) (readOf w) in
-    record { good = j .good; bad = j .bad; passed = j .passed; next = stateOf (j .lock) (waitingAfter j) (bitsAfter j w) }
+    record { blocks = j .blocks; passed = j .passed; next = stateOf (j .lock) (waitingAfter j) (bitsAfter j w) }
 
 -- the bit takes the first place that is not in use
 unfoldable pub stepOf : State → ℕ → Step
 stepOf s b =
     let w : List ℕ = set (s .bits) (s .waiting) b in
-    cond (ltb (s .waiting) 49) (record { good = 0; bad = 0; passed = 0; next = stateOf (lockIn s) (s .waiting + 1) w }) (judgedStep s w)
+    cond (ltb (s .waiting) 49) (record { blocks = noBlocks; passed = 0; next = stateOf (lockIn s) (s .waiting + 1) w }) (judgedStep s w)

@@ -7,11 +7,15 @@ ghost use mathlib.Core.Path.{_≡_};
 ghost use Prim.Native.Nat.{_≤_, _<_, _+_, _-_, _*_, _^_};
 ghost use lib.ListN.{length};
 ghost use Rattle.refusal.specs.Numbers.{numberOf};
+ghost use Rattle.locking.specs.Modes.{noBlocks};
 ghost use Rattle.receiver.specs.Changes.{sameLock, upTo, withFed, stretchFrom, stretchOf, runToChange};
 ghost use Rattle.receiver.specs.Packed.{freshPacked, unpacked, packedProper, endedPacked, runPacked, fedPacked};
-ghost use Rattle.receiver.specs.Runs.{countsOf, runOf, fedOf};
+ghost use Rattle.receiver.specs.Runs.{plus, countsOf, runOf, fedOf};
 ghost use Rattle.receiver.specs.States.{freshOf};
 use block::Packed;
+use block::read_by;
+use locking::Blocks;
+use locking::judge;
 use record::Record;
 use refusal::Refusal;
 use states::is_proper;
@@ -53,7 +57,7 @@ pub struct PackedState {
     pub age: u8,
 }
 
-// What a run counts.
+// What a run counts, and the remainder of its last bad block refused with 4.
 #[repr(C)]
 pub struct Counts {
     pub refusal: u8,
@@ -61,6 +65,7 @@ pub struct Counts {
     pub bad: u32,
     pub passed: u32,
     pub waiting: u32,
+    pub remainder: u16,
 }
 
 // A run's counts and the state after it.
@@ -88,25 +93,26 @@ pub fn fresh_packed() -> PackedState
 }
 
 // Where a run ends. Of the bits that had waited and were fed each block took fifty; the others wait or were passed over.
-fn counted(refusal: u8, good: u32, bad: u32, waited: u32, fed: usize, state: PackedState) -> Stretch
-    requires { ⌜ (50 * (good + bad) + state .waiting ≤ waited + fed) × (waited + fed < 2 ^ 32) ⌝ }
-    ensures { λ r. ⌜ r ≡ withFed (endedPacked refusal good bad (waited + fed - 50 * (good + bad) - state .waiting) state) fed ⌝ }
+fn counted(refusal: u8, blocks: Blocks, waited: u32, fed: usize, state: PackedState) -> Stretch
+    requires { ⌜ (50 * (blocks .good + blocks .bad) + state .waiting ≤ waited + fed) × (waited + fed < 2 ^ 32) ⌝ }
+    ensures { λ r. ⌜ r ≡ withFed (endedPacked refusal blocks (waited + fed - 50 * (blocks .good + blocks .bad) - state .waiting) state) fed ⌝ }
 {
     let waiting = state.waiting as u32;
     let counts = Counts {
         refusal,
-        good,
-        bad,
-        passed: waited + (fed as u32) - 50 * (good + bad) - waiting,
+        good: blocks.good,
+        bad: blocks.bad,
+        passed: waited + (fed as u32) - 50 * (blocks.good + blocks.bad) - waiting,
         waiting,
+        remainder: blocks.remainder,
     };
     let ran = PackedRan { counts, state };
     Stretch { ran, fed }
 }
 
-// Refused before any bit is fed: nothing is counted.
+// Refused before any bit is fed: nothing is counted or told.
 fn refused(why: Refusal) -> Counts
-    ensures { λ r. ⌜ r ≡ countsOf (numberOf why) 0 0 0 0 ⌝ }
+    ensures { λ r. ⌜ r ≡ countsOf (numberOf why) noBlocks 0 0 ⌝ }
 {
     Counts {
         refusal: refusal::number(why),
@@ -114,6 +120,33 @@ fn refused(why: Refusal) -> Counts
         bad: 0,
         passed: 0,
         waiting: 0,
+        remainder: 0,
+    }
+}
+
+fn no_blocks() -> Blocks
+    ensures { λ b. ⌜ b ≡ noBlocks ⌝ }
+{
+    Blocks {
+        good: 0,
+        bad: 0,
+        remainder: 0,
+    }
+}
+
+// Blocks one after the other: of two remainders the later one, but 0 tells nothing.
+fn more(before: Blocks, after: Blocks) -> Blocks
+    requires { ⌜ (before .good + after .good < 2 ^ 32) × (before .bad + after .bad < 2 ^ 32) ⌝ }
+    ensures { λ b. ⌜ b ≡ plus before after ⌝ }
+{
+    let mut remainder = after.remainder;
+    if after.remainder == 0 {
+        remainder = before.remainder;
+    }
+    Blocks {
+        good: before.good + after.good,
+        bad: before.bad + after.bad,
+        remainder,
     }
 }
 
@@ -133,19 +166,18 @@ fn ends(stop: bool, before: u8, after: u8) -> bool
 // The bits one after the other. The circuit turns once for each; a full window is passed over by one bit, or judged and used up.
 fn feed_all(state: PackedState, bits: &[u8], stop: bool) -> Stretch
     requires { ⌜ (packedProper state ≡ true) × (length (now bits) ≤ 65536) ⌝ }
-    ensures { λ r. ⌜ r ≡ stretchFrom (upTo stop (unpacked state) (now (bits .entry))) 0 0 0 0 (unpacked state) ⌝ }
+    ensures { λ r. ⌜ r ≡ stretchFrom (upTo stop (unpacked state) (now (bits .entry))) 0 noBlocks 0 (unpacked state) ⌝ }
 {
     let mut lock = lock_in(state);
     let mut window = window_in(state);
     let waited = window.waiting;
-    let mut good: u32 = 0;
-    let mut bad: u32 = 0;
+    let mut blocks = no_blocks();
     let mut i: usize = 0;
     while i < bits.len() {
         let bit = bits[i];
         if 1 < bit {
             let why = refusal::number(Refusal::NotABit);
-            return counted(why, good, bad, waited, i, kept(lock, window));
+            return counted(why, blocks, waited, i, kept(lock, window));
         }
         window = join(window, bit);
         if window.waiting == 50 {
@@ -153,21 +185,21 @@ fn feed_all(state: PackedState, bits: &[u8], stop: bool) -> Stretch
             if is_passed_over(lock.mode, window) {
                 window = move_on(window, left);
             } else {
-                let judged = locking::judge(lock, block::read_by(window.bits, left));
-                good += judged.good as u32;
-                bad += judged.bad as u32;
+                let judged = judge(lock, read_by(window.bits, left as u16));
+                let one = judged.blocks;
+                blocks = more(blocks, one);
                 let before = lock.mode;
                 let next = judged.lock;
                 lock = next;
                 window = empty();
                 if ends(stop, before, lock.mode) {
-                    return counted(0, good, bad, waited, i + 1, kept(lock, window));
+                    return counted(0, blocks, waited, i + 1, kept(lock, window));
                 }
             }
         }
         i += 1;
     }
-    counted(0, good, bad, waited, i, kept(lock, window))
+    counted(0, blocks, waited, i, kept(lock, window))
 }
 
 // A run of all the bits or, where it is to stop there, of those up to the one with which lock changes.

@@ -27,7 +27,7 @@ usable-in (read.Block code word) r e = go (words.readOf code word) e
     go : (u : Recorded) → thenUsable u ≡ Given r → usableOf r ≡ Given r
     go (Given u) e = rw (usable-given u r e .0) at e
     go (Refused why) e = absurd (not-given why r e)
-usable-in (read.Refused why) r e = absurd (not-given why r e)
+usable-in (read.Refused why told) r e = absurd (not-given why r e)
 
 older : (t : Time) → timeProper t ≡ true → eqb (t .kind) none ≡ false → leb 30 (t .age + 1) ≡ false → timeProper (timeOf (t .kind) (t .held) (t .age + 1)) ≡ true
 unfolding timeProper

@@ -38,7 +38,7 @@ thenUsable (Refused why) = Refused why
 
 unfoldable pub usableIn : Read → Recorded
 usableIn (read.Block code word) = thenUsable (words.readOf code word)
-usableIn (read.Refused why) = Refused why
+usableIn (read.Refused why told) = Refused why
 
 -- minute, hour, weekday, week, start day and leap code are the same; the offset is not asked
 unfoldable pub sameMinute : Record → Record → Bool

@@ -45,7 +45,10 @@ fn usable_in(read: Read) -> Recorded
             Recorded::Given(r) => calendar::usable(r),
             Recorded::Refused(why) => Recorded::Refused(why),
         },
-        Read::Refused(why) => Recorded::Refused(why),
+        Read::Refused {
+            refusal,
+            remainder: _,
+        } => Recorded::Refused(refusal),
     }
 }
 

@@ -24,15 +24,15 @@ slice-aggregate-result : tie.Need-slice-aggregate-result
 slice-aggregate-result c = search needs
 
 returns : tie.Need-returns
-returns c = simp (← c .before .before .choose-between .ensures, c .enum-told .given .1) (refl, (refl, (refl, refl)))
+returns c = simp (← c .before .before .choose-between .ensures, c .enum-told .given .1) (refl, (refl, (refl, (refl, refl))))
 
 returns-2 : tie.Need-returns-2
-returns-2 c = simp (← c .before .before .choose-between .ensures, c .enum-told2 .given .1) (refl, (refl, (refl, refl)))
+returns-2 c = simp (← c .before .before .choose-between .ensures, c .enum-told2 .given .1) (refl, (refl, (refl, (refl, refl))))
 
 returns-3 : tie.Need-returns-3
 returns-3 c =
     let which = c .before .before .before in
-    simp (← which .before .before .choose-between .ensures, which .which .given .1) (refl, (refl, (refl, c .before .number .ensures)))
+    simp (← which .before .before .choose-between .ensures, which .which .given .1) (refl, (refl, (refl, (c .before .number .ensures, refl))))
 
 pub choose-spec : {M : Type 1} → statement M
 choose-spec =

@@ -5,6 +5,7 @@ use mathlib.Core.Path.{sym, ap, _∙_}
 use native.Mathlib.Omega.{arith}
 use Rattle.block.specs.Packed.{readBy}
 use Rattle.block.proofs.Reading.{number-reads, reads-as, wide}
+use Rattle.block.proofs.Strings.{thirteen}
 use Rattle.block.proofs.read_packed.Statement.{statement}
 use Rattle.block.proofs.read_packed.Tie as tie
 
@@ -13,6 +14,9 @@ returns c = wide (c .before .args .block) (omega arith)
 
 remainder-requires : tie.Need-remainder-requires
 remainder-requires c κs = search needs
+
+cast-read-by : tie.Need-cast-read-by
+cast-read-by c = omega (arith, thirteen 49 _ (c .remainder .ensures))
 
 read-by-requires : tie.Need-read-by-requires
 read-by-requires c κs = search needs
@@ -23,4 +27,4 @@ returns-2 c =
     c .read-by .ensures ∙ ap (readBy n) (c .before .remainder .ensures) ∙ number-reads n (omega arith) ∙ sym (reads-as n (omega arith))
 
 pub read-packed-spec : {M : Type 1} → statement M
-read-packed-spec = tie.close (tie.spec returns remainder-requires read-by-requires returns-2)
+read-packed-spec = tie.close (tie.spec returns remainder-requires cast-read-by read-by-requires returns-2)

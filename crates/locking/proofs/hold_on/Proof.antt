@@ -23,8 +23,8 @@ lock-of-requires c κs = search needs
 good-block-requires : tie.Need-good-block-requires
 good-block-requires c κs = search needs
 
-enum-told-2 : tie.Need-enum-told-2
-enum-told-2 c = search needs
+enum-known-read : tie.Need-enum-known-read
+enum-known-read c = search needs
 
 add-lock-of : tie.Need-add-lock-of
 add-lock-of c = search needs
@@ -50,18 +50,18 @@ returns c =
 returns-2 : tie.Need-returns-2
 unfolding heldOn
 returns-2 c =
-    let told = c .before .before .before in
+    let told = c .before .before .before .before in
     let offered = told .before .before .before in
     let bad = offered .before .args .bad in
-    rw (c .bad-block .ensures, c .before .lock-of2 .ensures, offered .offered-to .ensures, told .enum-told2 .given .1, lt-leb 4 (bad + 1) (omega arith))
+    rw (c .bad-block .ensures, c .before .lock-of2 .ensures, offered .offered-to .ensures, told .read .given .1, lt-leb 4 (bad + 1) (omega arith))
 
 returns-3 : tie.Need-returns-3
 unfolding heldOn
 returns-3 c =
-    let told = c .before .before .before in
+    let told = c .before .before .before .before in
     let none = told .before .before in
     let bad = none .before .before .args .bad in
-    rw (c .bad-block2 .ensures, c .before .lock-of3 .ensures, none .no-time .ensures, told .enum-told2 .given .1, le-leb 4 (bad + 1) (omega arith))
+    rw (c .bad-block2 .ensures, c .before .lock-of3 .ensures, none .no-time .ensures, told .read .given .1, le-leb 4 (bad + 1) (omega arith))
 
 pub hold-on-spec : {M : Type 1} → statement M
 hold-on-spec =
@@ -72,7 +72,7 @@ hold-on-spec =
     enum-told
     lock-of-requires
     good-block-requires
-    enum-told-2
+    enum-known-read
     add-lock-of
     lock-of-requires-2
     bad-block-requires

@@ -32,8 +32,8 @@ lock-of-requires-2 c κs = search needs
 good-block-requires-2 : tie.Need-good-block-requires-2
 good-block-requires-2 c κs = search needs
 
-enum-told-2 : tie.Need-enum-told-2
-enum-told-2 c = search needs
+enum-known-read : tie.Need-enum-known-read
+enum-known-read c = search needs
 
 fresh-lock-requires : tie.Need-fresh-lock-requires
 fresh-lock-requires c κs = search needs
@@ -59,7 +59,7 @@ returns-2 c =
 
 returns-3 : tie.Need-returns-3
 unfolding tried
-returns-3 c = rw (c .bad-block .ensures, c .before .fresh-lock .ensures, c .before .before .enum-told2 .given .1)
+returns-3 c = rw (c .bad-block .ensures, c .before .fresh-lock .ensures, c .before .before .before .read .given .1)
 
 pub try-on-spec : {M : Type 1} → statement M
 try-on-spec =
@@ -73,7 +73,7 @@ try-on-spec =
     no-time-requires-2
     lock-of-requires-2
     good-block-requires-2
-    enum-told-2
+    enum-known-read
     fresh-lock-requires
     bad-block-requires
     returns

@@ -8,16 +8,18 @@ use mathlib.Core.Path.{_≡_, refl, sym, ap, _∙_, subst}
 use Prim.Native.Nat.{ℕ, _+_, _-_, _*_, _≤_, _<_}
 use native.Mathlib.Omega.{arith}
 use lib.ListN.{length, getD, drop, drop-of-length-le}
-use Rattle.block.proofs.Strings.{next}
+use Rattle.block.proofs.Strings.{next, thirteen}
+use Rattle.locking.specs.declared.Blocks.{Blocks}
 use Rattle.locking.specs.declared.Judged.{Judged}
 use Rattle.locking.specs.declared.Lock.{Lock}
 use Rattle.locking.specs.Locks.{lockProper}
-use Rattle.locking.specs.Modes.{passedOver, judgedBy}
+use Rattle.locking.specs.Modes.{noBlocks, passedOver, judgedBy}
 use Rattle.locking.proofs.Choices.{counts-one}
 use Rattle.locking.proofs.StaysProper.{judged-proper}
 use Rattle.receiver.specs.declared.State.{State}
 use Rattle.receiver.specs.declared.windows.Window.{Window}
 use Rattle.receiver.specs.States.{stateOf}
+use Rattle.receiver.specs.Runs.{plus}
 use Rattle.receiver.specs.Changes.{sameLock}
 use Rattle.receiver.specs.Windows.{Turned}
 use Rattle.receiver.proofs.Balance.{MadeUp}
@@ -41,17 +43,17 @@ abbrev number : Window → ℕ
 number w = w .bits
 
 abbrev Inv-loop : tie.InvT-loop
-Inv-loop bits stop lock₀ window₀ waited good₀ bad₀ i₀ lock window good bad i =
+Inv-loop bits stop lock₀ window₀ waited blocks₀ i₀ lock window blocks i =
     (i ≤ length bits) × (window .waiting < 50) × Turned window × (lockProper lock ≡ true) × (waited + length bits ≤ 65585)
-    × ((passed : ℕ) × MadeUp (waited + i) good bad passed (window .waiting)
-    × (goesOn stop (drop i bits) i good bad passed (held lock window) ≡ goesOn stop bits 0 0 0 0 (held lock₀ window₀)))
+    × ((passed : ℕ) × MadeUp (waited + i) blocks passed (window .waiting)
+    × (goesOn stop (drop i bits) i blocks passed (held lock window) ≡ goesOn stop bits 0 noBlocks 0 (held lock₀ window₀)))
 
 abbrev μ-loop : tie.MeasureT-loop
-μ-loop bits stop lock₀ window₀ waited good₀ bad₀ i₀ lock window good bad i = length bits - i
+μ-loop bits stop lock₀ window₀ waited blocks₀ i₀ lock window blocks i = length bits - i
 
 -- the bits passed over are what is left of them
-passed-is : (n good bad passed w : ℕ) → MadeUp n good bad passed w → n - 50 * (good + bad) - w ≡ passed
-passed-is n good bad passed w made = omega arith
+passed-is : (n : ℕ) (blocks : Blocks) (passed w : ℕ) → MadeUp n blocks passed w → n - 50 * (blocks .good + blocks .bad) - w ≡ passed
+passed-is n blocks passed w made = omega arith
 
 lock-in-requires : tie.Need-lock-in-requires Inv-loop μ-loop
 lock-in-requires c κs = search needs
@@ -59,18 +61,22 @@ lock-in-requires c κs = search needs
 window-in-requires : tie.Need-window-in-requires Inv-loop μ-loop
 window-in-requires c κs = c .before .before .pre .0
 
+no-blocks-requires : tie.Need-no-blocks-requires Inv-loop μ-loop
+no-blocks-requires c κs = search needs
+
 loop-holds : tie.Need-loop-holds Inv-loop μ-loop
 loop-holds c =
-    let lock = c .before in
+    let window = c .before in
+    let lock = window .before in
     let start = lock .before .before in
     let p = start .args .state in
-    let w = c .window-in .ensures in (
+    let w = window .window-in .ensures in (
       omega arith,
       omega (arith, w .0, few p (start .pre .0)),
       w .2,
       rw (lock .lock-in .ensures) (bits-and-lock _ (proper-unpacked p (start .pre .0) .proper) .1),
       omega (arith, w .0, few p (start .pre .0), start .pre .1),
-      (0, omega arith, refl),
+      (0, rw (c .no-blocks .ensures) (omega arith), rw (c .no-blocks .ensures)),
     )
 
 shared-slice-read-bit : tie.Need-shared-slice-read-bit Inv-loop μ-loop
@@ -90,7 +96,7 @@ counted-requires c κs =
 returns : tie.Need-returns Inv-loop μ-loop
 returns c =
     let at = c .before .before .before .before .before .before in
-    let window = at .before in
+    let window = at .before .before in
     let lock = window .before in
     let start = lock .before .before in
     let bits = start .args .bits .now in
@@ -98,8 +104,8 @@ returns c =
     let w = window .window-in .ensures in
     let whole = rw (next bits (at .loop .i) (c .before .before .before .before .before .loop-test .taken)) at (at .loop .inv .5 .2) in
     let no-bit : 2 ≤ getD bits (at .loop .i) 0 = omega (arith, c .before .before .before .if1 .taken) in
-    rw (c .counted .ensures, c .before .kept .ensures, passed-is _ _ _ _ _ (at .loop .inv .5 .1), c .before .before .number .ensures, put-back (at .loop .lock) _ _ (at .loop .inv .2 .0))
-    (sym (on-stops stop (at .loop .i) _ _ _ _ _ _ no-bit) ∙ whole ∙ entered (start .args .state) (start .pre .0) (lock .lock-in .ensures) (w .0) (w .1) stop bits)
+    rw (c .counted .ensures, c .before .kept .ensures, passed-is _ (at .loop .blocks) _ _ (at .loop .inv .5 .1), c .before .before .number .ensures, put-back (at .loop .lock) _ _ (at .loop .inv .2 .0))
+    (sym (on-stops stop (at .loop .i) _ _ _ _ _ no-bit) ∙ whole ∙ entered (start .args .state) (start .pre .0) (lock .lock-in .ensures) (w .0) (w .1) stop bits)
 
 join-requires : tie.Need-join-requires Inv-loop μ-loop
 join-requires c κs = let inv = c .before .before .before .loop .inv in (inv .1, omega (arith, c .if1 .left), inv .2)
@@ -113,29 +119,21 @@ is-passed-over-requires c κs = behind-first-requires (c .before) κs
 move-on-requires : tie.Need-move-on-requires Inv-loop μ-loop
 move-on-requires c κs = c .before .before .behind-first .ensures
 
+cast-read-by : tie.Need-cast-read-by Inv-loop μ-loop
+cast-read-by c = omega (arith, thirteen 49 _ (c .before .before .behind-first .ensures))
+
 read-by-requires : tie.Need-read-by-requires Inv-loop μ-loop
 read-by-requires c κs = search needs
 
 judge-requires : tie.Need-judge-requires Inv-loop μ-loop
 judge-requires c κs = search needs
 
-cast-good : tie.Need-cast-good Inv-loop μ-loop
-cast-good c = search needs
-
-add-good : tie.Need-add-good Inv-loop μ-loop
-add-good c =
+more-requires : tie.Need-more-requires Inv-loop μ-loop
+more-requires c κs =
     let judge = c .before in
     let inv = judge .before .before .before .before .before .before .before .before .before .before .before .loop .inv in
-    omega (arith, counts-one _ _ (judge .judge .ensures), inv .0, inv .4, inv .5 .1)
-
-cast-bad : tie.Need-cast-bad Inv-loop μ-loop
-cast-bad c = search needs
-
-add-bad : tie.Need-add-bad Inv-loop μ-loop
-add-bad c =
-    let judge = c .before .before in
-    let inv = judge .before .before .before .before .before .before .before .before .before .before .before .loop .inv in
-    omega (arith, counts-one _ _ (judge .judge .ensures), inv .0, inv .4, inv .5 .1)
+    let one = counts-one _ _ (judge .judge .ensures) in
+    (omega (arith, one, inv .0, inv .4, inv .5 .1), omega (arith, one, inv .0, inv .4, inv .5 .1))
 
 empty-requires : tie.Need-empty-requires Inv-loop μ-loop
 empty-requires c κs = search needs
@@ -147,7 +145,7 @@ add-counted : tie.Need-add-counted Inv-loop μ-loop
 add-counted c =
     let judge = c .before .before .before .before .before .before in
     let at = judge .before .before .before .before .before .before .before .before .before .before .before in
-    omega (arith, at .loop .inv .0, at .before .before .before .before .pre .1)
+    omega (arith, at .loop .inv .0, at .before .before .before .before .before .pre .1)
 
 kept-requires-2 : tie.Need-kept-requires-2 Inv-loop μ-loop
 kept-requires-2 c κs = let e = c .before .before .empty .ensures in (omega (arith, e .0), e .2)
@@ -160,7 +158,7 @@ counted-requires-2 c κs =
     let joined = full .before .before in
     let at = joined .before .before .before .before in
     let inv = at .loop .inv in (
-      rw (c .kept2 .ensures) (omega (arith, end .before .empty .ensures .0, counts-one _ _ (judge .judge .ensures), inv .5 .1, joined .join .ensures .0, full .if2 .taken)),
+      rw (c .kept2 .ensures, end .before .before .before .more .ensures) (omega (arith, end .before .empty .ensures .0, counts-one _ _ (judge .judge .ensures), inv .5 .1, joined .join .ensures .0, full .if2 .taken)),
       omega (arith, joined .before .before .before .loop-test .taken, inv .4),
     )
 
@@ -172,11 +170,11 @@ returns-2 c =
     let full = over .before .before in
     let joined = full .before .before in
     let at = joined .before .before .before .before in
-    let lock = at .before .before in
+    let lock = at .before .before .before in
     let start = lock .before .before in
     let bits = start .args .bits .now in
     let stop = start .args .stop in
-    let window = at .before .window-in .ensures in
+    let window = at .before .before .window-in .ensures in
     let l = at .loop .lock in
     let v = joined .join .result in
     let grown = joined .join .ensures in
@@ -188,10 +186,10 @@ returns-2 c =
     let whole = rw (next bits (at .loop .i) (joined .before .before .before .loop-test .taken)) at (at .loop .inv .5 .2) in
     let change = stopped stop (sameLock (l .mode) (j .lock .mode)) (end .ends .result) (end .ends .ensures) (c .before .before .if4 .taken) in
     let nothing = end .before .empty .ensures in
-    let made : MadeUp (at .before .window-in .result .waiting + (at .loop .i + 1)) (at .loop .good + j .good) (at .loop .bad + j .bad) (at .loop .inv .5 .0) (end .before .empty .result .waiting) =
+    let made : MadeUp (at .before .before .window-in .result .waiting + (at .loop .i + 1)) (plus (at .loop .blocks) (j .blocks)) (at .loop .inv .5 .0) (end .before .empty .result .waiting) =
     omega (arith, at .loop .inv .5 .1, grown .0, full .if2 .taken, counts-one _ _ (judge .judge .ensures), none, nothing .0) in
-    rw (c .counted2 .ensures, c .before .kept2 .ensures, passed-is _ _ _ _ _ made, put-back (j .lock) _ _ (nothing .2 .0), nothing .0, nothing .1)
-    (sym (ends-here stop (at .loop .i) _ _ _ _ _ b l _ _ (v .bits) (grown .1) (sym (grown .0) ∙ full .if2 .taken) j e none (change .0) (change .1))
+    rw (c .counted2 .ensures, c .before .kept2 .ensures, end .before .before .before .more .ensures, passed-is _ (plus (at .loop .blocks) (j .blocks)) _ _ made, put-back (j .lock) _ _ (nothing .2 .0), nothing .0, nothing .1)
+    (sym (ends-here stop (at .loop .i) _ _ _ _ b l _ _ (v .bits) (grown .1) (sym (grown .0) ∙ full .if2 .taken) j e none (change .0) (change .1))
     ∙ whole ∙ entered (start .args .state) (start .pre .0) (lock .lock-in .ensures) (window .0) (window .1) stop bits)
 
 add-i : tie.Need-add-i Inv-loop μ-loop
@@ -204,7 +202,7 @@ loop-again : tie.Need-loop-again Inv-loop μ-loop
 loop-again c =
     let joined = c .before .before in
     let at = joined .before .before .before .before in
-    let start = at .before .before .before .before in
+    let start = at .before .before .before .before .before in
     let bits = start .args .bits .now in
     let stop = start .args .stop in
     let inv = at .loop .inv in
@@ -225,9 +223,9 @@ loop-again c =
       inv .4,
       (
         inv .5 .0 + 1,
-        omega (arith, inv .5 .1, o .7, o .8, ap waiting (o .6), moved .0, grown .0, o .0 .taken),
-        goes-same stop _ _ _ (o .5) (ap waiting (o .6) ∙ moved .0) (ap number (o .6) ∙ moved .1) (o .7) (o .8)
-            ∙ sym (goes-over stop (at .loop .i) _ _ _ _ _ b l _ _ (v .bits) (grown .1) (sym (grown .0) ∙ o .0 .taken) (passedOver l) (is-over l _ _ (o .2 .ensures) (inv .3) (o .3 .taken)) refl) ∙ whole,
+        rw (o .7) (omega (arith, inv .5 .1, ap waiting (o .6), moved .0, grown .0, o .0 .taken)),
+        goes-same stop _ _ _ (o .5) (ap waiting (o .6) ∙ moved .0) (ap number (o .6) ∙ moved .1) (o .7)
+            ∙ sym (goes-over stop (at .loop .i) _ _ _ _ b l _ _ (v .bits) (grown .1) (sym (grown .0) ∙ o .0 .taken) (passedOver l) (is-over l _ _ (o .2 .ensures) (inv .3) (o .3 .taken)) refl) ∙ whole,
       ),
     ))
     (⊎-elim
@@ -237,7 +235,8 @@ loop-again c =
     let e = u .5 .ensures ∙ ap (judgedBy l) (u .4 .ensures ∙ reads (v .bits) _ (f .0) (u .1 .ensures)) in
     let none = ap (λ (j : Judged). j .passed) e ∙ not-over l _ _ (u .2 .ensures) (u .3 .left) in
     let same = went-on stop (sameLock (l .mode) (j .lock .mode)) (u .10 .result) (u .10 .ensures) (u .11 .left) in
-    let nothing = u .9 .ensures in (
+    let nothing = u .9 .ensures in
+    let added = u .14 ∙ u .7 .ensures in (
       here,
       omega (arith, ap waiting (u .13), nothing .0),
       subst Turned (sym (u .13)) (nothing .2),
@@ -245,9 +244,9 @@ loop-again c =
       inv .4,
       (
         inv .5 .0,
-        omega (arith, inv .5 .1, u .14, u .15, ap waiting (u .13), nothing .0, grown .0, u .0 .taken, counts-one _ _ (u .5 .ensures), none),
-        goes-same stop _ _ _ (u .12) (ap waiting (u .13) ∙ nothing .0) (ap number (u .13) ∙ nothing .1) (u .14) (u .15)
-            ∙ sym (goes-on stop (at .loop .i) _ _ _ _ _ b l _ _ (v .bits) (grown .1) (sym (grown .0) ∙ u .0 .taken) j e none same) ∙ whole,
+        rw added (omega (arith, inv .5 .1, ap waiting (u .13), nothing .0, grown .0, u .0 .taken, counts-one _ _ (u .5 .ensures), none)),
+        goes-same stop _ _ _ (u .12) (ap waiting (u .13) ∙ nothing .0) (ap number (u .13) ∙ nothing .1) added
+            ∙ sym (goes-on stop (at .loop .i) _ _ _ _ b l _ _ (v .bits) (grown .1) (sym (grown .0) ∙ u .0 .taken) j e none same) ∙ whole,
       ),
     ))
     (λ k. (
@@ -258,9 +257,9 @@ loop-again c =
       inv .4,
       (
         inv .5 .0,
-        omega (arith, inv .5 .1, k .3, k .4, ap waiting (k .2), grown .0),
-        goes-same stop _ _ _ (k .1) (ap waiting (k .2) ∙ grown .0) (ap number (k .2)) (k .3) (k .4)
-            ∙ sym (more-wait stop (at .loop .i) _ _ _ _ _ b l _ _ (v .bits) (grown .1) (omega (arith, grown .0, k .0 .left, inv .1))) ∙ whole,
+        rw (k .3) (omega (arith, inv .5 .1, ap waiting (k .2), grown .0)),
+        goes-same stop _ _ _ (k .1) (ap waiting (k .2) ∙ grown .0) (ap number (k .2)) (k .3)
+            ∙ sym (more-wait stop (at .loop .i) _ _ _ _ b l _ _ (v .bits) (grown .1) (omega (arith, grown .0, k .0 .left, inv .1))) ∙ whole,
       ),
     )))
     (c .if2 .came)
@@ -276,14 +275,14 @@ counted-requires-3 c κs =
 returns-3 : tie.Need-returns-3 Inv-loop μ-loop
 returns-3 c =
     let at = c .before .before .before in
-    let lock = at .before .before in
+    let lock = at .before .before .before in
     let start = lock .before .before in
     let bits = start .args .bits .now in
     let stop = start .args .stop in
-    let window = at .before .window-in .ensures in
+    let window = at .before .before .window-in .ensures in
     let whole = rw (drop-of-length-le bits (c .before .before .loop-test .left)) at (at .loop .inv .5 .2) in
-    rw (c .counted3 .ensures, c .before .kept3 .ensures, passed-is _ _ _ _ _ (at .loop .inv .5 .1), put-back (at .loop .lock) _ _ (at .loop .inv .2 .0))
-    (sym (on-done stop (at .loop .i) _ _ _ _) ∙ whole ∙ entered (start .args .state) (start .pre .0) (lock .lock-in .ensures) (window .0) (window .1) stop bits)
+    rw (c .counted3 .ensures, c .before .kept3 .ensures, passed-is _ (at .loop .blocks) _ _ (at .loop .inv .5 .1), put-back (at .loop .lock) _ _ (at .loop .inv .2 .0))
+    (sym (on-done stop (at .loop .i) _ _ _) ∙ whole ∙ entered (start .args .state) (start .pre .0) (lock .lock-in .ensures) (window .0) (window .1) stop bits)
 
 pub feed-all-spec : {M : Type 1} → statement M
 feed-all-spec =
@@ -293,6 +292,7 @@ feed-all-spec =
     μ-loop
     lock-in-requires
     window-in-requires
+    no-blocks-requires
     loop-holds
     shared-slice-read-bit
     number-requires
@@ -303,12 +303,10 @@ feed-all-spec =
     behind-first-requires
     is-passed-over-requires
     move-on-requires
+    cast-read-by
     read-by-requires
     judge-requires
-    cast-good
-    add-good
-    cast-bad
-    add-bad
+    more-requires
     empty-requires
     ends-requires
     add-counted

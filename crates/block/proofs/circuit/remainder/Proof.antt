@@ -5,7 +5,7 @@ use Prim.Native.Nat.{ℕ, _/_, _%_, _^_}
 use native.Mathlib.Omega.{arith}
 use Rattle.block.specs.Bits.{bitsOf}
 use Rattle.block.specs.Division.{remainder, remainderFrom}
-use Rattle.block.proofs.Strings.{bits-bitsOf, bitsOf-mod, rem-filled, rem-lt}
+use Rattle.block.proofs.Strings.{bitsOf-mod, rem-filled, thirteen}
 use Rattle.block.proofs.circuit.remainder.Statement.{statement}
 use Rattle.block.proofs.circuit.remainder.Tie as tie
 
@@ -19,7 +19,7 @@ lowest n = sym (ap remainder (bitsOf-mod 49 n)) ∙ rem-filled 36 (n % 2 ^ 49) (
 cast-result : tie.Need-cast-result
 cast-result c =
     let number = c .before .args .number in
-    omega (arith, c .let-in .ensures ∙ sym (lowest number), rem-lt (bitsOf 49 number) 0 (omega arith) (bits-bitsOf 49 number))
+    omega (arith, thirteen 49 number (c .let-in .ensures ∙ sym (lowest number)))
 
 returns : tie.Need-returns
 returns c = c .let-in .ensures ∙ sym (lowest (c .before .args .number))

@@ -4,7 +4,8 @@ use borrow.Author.Needs.{needs}
 use mathlib.Core.Path.{refl}
 use Prim.Native.Nat.{_+_, _*_}
 use native.Mathlib.Omega.{arith}
-use Rattle.receiver.proofs.Turning.{has-room, one-more, register-lt, turned}
+use Rattle.block.proofs.Strings.{thirteen}
+use Rattle.receiver.proofs.Turning.{has-room, one-more, turned}
 use Rattle.receiver.proofs.windows.join.Statement.{statement}
 use Rattle.receiver.proofs.windows.join.Tie as tie
 
@@ -26,7 +27,7 @@ cast-t7 c =
     let start = c .before .before in
     let w = start .args .window in
     let bit = start .args .bit in
-    omega (arith, turned (w .waiting) (w .bits) bit (start .pre .1) (w .register) _ (start .pre .2 .1) (c .turn .ensures), register-lt (w .waiting + 1) (w .bits * 2 + bit))
+    omega (arith, thirteen (w .waiting + 1) (w .bits * 2 + bit) (turned (w .waiting) (w .bits) bit (start .pre .1) (w .register) _ (start .pre .2 .1) (c .turn .ensures)))
 
 add-t8 : tie.Need-add-t8
 add-t8 c = search needs
