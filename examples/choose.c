@@ -9,9 +9,11 @@
 static void show(const char *title, const uint8_t *first, const uint8_t *second)
 {
     uint8_t number;
-    uint8_t which = lw_choose(first, BLOCK, second, BLOCK, &number);
+    uint16_t remainder;
+    uint8_t which = lw_choose(first, BLOCK, second, BLOCK, &number, &remainder);
     if (which == 0) {
         printf("%s: neither, refused with %d: %s\n", title, number, reason_of(number));
+        printf("  remainder of the first 0x%04" PRIX16 "\n", remainder);
         return;
     }
     lw_block block = lw_read_block(which == 1 ? first : second, BLOCK);

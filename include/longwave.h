@@ -13,6 +13,9 @@
  * and must be valid for the length beside it; what is lent for writing must
  * not overlap anything else in the same call. Any length and any values of
  * bytes, numbers and fields are answered, if need be by a refusal.
+ *
+ * A caller has to be compiled with this header and not with an older one, since
+ * lw_block and lw_counts have grown.
  */
 #ifndef LONGWAVE_H
 #define LONGWAVE_H
@@ -49,15 +52,21 @@ enum {
     LW_WRONG_CRC = 22         /* the CRC byte does not agree with the mended bytes */
 };
 
-/* What was read; code and word are 0 where refused. */
+/* What was read; code and word are 0 where refused.
+ *
+ * A block refused with 4 tells by its remainder how it failed: this is what all
+ * 50 bits, the first inverted, leave when they are divided by
+ * x^13+x^12+x^11+x^10+x^7+x^6+x^5+x^4+x^2+1. It comes from the damage alone: the
+ * same places changed leave the same remainder, whatever block was sent. */
 typedef struct lw_block {
     uint8_t refusal;
     uint8_t code;
     uint32_t word;
+    uint16_t remainder; /* with a 4: 1 to 8191, place 12 for x^12; else 0 */
 } lw_block;
 
-/* Reads a block from `len` bytes and answers its code and word.
- * Refusals, in this order: 2, 1, 3, 4. The bytes stay as they are. */
+/* Reads a block from `len` bytes and answers its code and word, or with a 4 its
+ * remainder. Refusals, in this order: 2, 1, 3, 4. The bytes stay as they are. */
 lw_block lw_read_block(const uint8_t *bits, size_t len);
 
 /* Writes the block of a code (0 to 15) and any word over all 50 bytes, whatever
@@ -66,10 +75,12 @@ lw_block lw_read_block(const uint8_t *bits, size_t len);
 uint8_t lw_write_block(uint8_t code, uint32_t word, uint8_t *bits, size_t len);
 
 /* Chooses between two aerials: 1 if the first holds a good block, else 2 if the
- * second does, else 0. Always sets `*number`: to 0 with a block, else to the
- * refusal that reading the first gives. The bytes of both stay as they are. */
+ * second does, else 0. Always sets `*number` and `*remainder`: to 0 with a block,
+ * else to the refusal and the remainder that reading the first gives. The bytes
+ * of both stay as they are. */
 uint8_t lw_choose(const uint8_t *first, size_t first_len,
-                  const uint8_t *second, size_t second_len, uint8_t *number);
+                  const uint8_t *second, size_t second_len,
+                  uint8_t *number, uint16_t *remainder);
 
 /* A block as one number; 0 where refused. */
 typedef struct lw_packed {
@@ -77,17 +88,18 @@ typedef struct lw_packed {
     uint64_t block;
 } lw_packed;
 
-/* Reads a block from a number and answers its code and word.
- * Refusals, in this order: 14, 3, 4. */
+/* Reads a block from a number and answers its code and word, or with a 4 its
+ * remainder. Refusals, in this order: 14, 3, 4. */
 lw_block lw_read_packed(uint64_t block);
 
 /* Answers the block of a code (0 to 15) and any word as a number. Refusal: 6. */
 lw_packed lw_write_packed(uint8_t code, uint32_t word);
 
 /* Chooses between two aerials, as lw_choose does: 1, 2 or 0. Always sets
- * `*number`: to 0 with a block, else to the refusal that reading the first
- * gives, 14, 3 or 4. */
-uint8_t lw_choose_packed(uint64_t first, uint64_t second, uint8_t *number);
+ * `*number` and `*remainder`: to 0 with a block, else to the refusal, 14, 3 or 4,
+ * and the remainder that reading the first gives. */
+uint8_t lw_choose_packed(uint64_t first, uint64_t second,
+                         uint8_t *number, uint16_t *remainder);
 
 /* Answers 50 bits as a number, whether they are a good block or not.
  * Refusals, in this order: 2, 1. The bytes stay as they are. */
@@ -194,14 +206,19 @@ typedef struct lw_state {
     uint8_t age;             /* 0 to 29 blocks since then */
 } lw_state;
 
-/* What a call did. Unless it was refused with 9 or 10, in which case all counts
- * are 0: waiting before + bits fed = 50 (good + bad) + passed + waiting. */
+/* What a call did. Refused with 9 or 10, all counts and the remainder are 0; else
+ * waiting before + bits fed = 50 (good + bad) + passed + waiting.
+ *
+ * The remainder is that of the last bad block of this call that was refused with
+ * 4, as lw_block tells it. A bad block behind it that was refused with 3 does not
+ * clear it, and windows that are passed over while hunting are no bad blocks. */
 typedef struct lw_counts {
     uint8_t refusal;
-    uint32_t good;    /* good blocks, used up */
-    uint32_t bad;     /* bad blocks, used up */
-    uint32_t passed;  /* bits passed over while hunting */
-    uint32_t waiting; /* bits waiting at the end */
+    uint32_t good;      /* good blocks, used up */
+    uint32_t bad;       /* bad blocks, used up */
+    uint32_t passed;    /* bits passed over while hunting */
+    uint32_t waiting;   /* bits waiting at the end */
+    uint16_t remainder; /* 1 to 8191, or 0 where no bad block was refused with 4 */
 } lw_counts;
 
 /* Answers a fresh state: hunting, with nothing waiting and no time. */
@@ -213,7 +230,8 @@ lw_counts lw_feed(lw_state *state, uint8_t bit);
 
 /* Feeds up to 65,536 bits, first sent bit first.
  * Refusals, in this order: 9, 10, and the state then stays as it is; or 1 at a
- * bit that is none, and state and counts are then those of the bits before it. */
+ * bit that is none, and state, counts and remainder are then those of the bits
+ * before it. */
 lw_counts lw_run(lw_state *state, const uint8_t *bits, size_t len);
 
 /* A receiver's state with the waiting bits in one number. It belongs to the
@@ -242,7 +260,8 @@ lw_counts lw_feed_packed(lw_packed_state *state, uint8_t bit);
 
 /* Feeds up to 65,536 bits, each still a byte, first sent bit first.
  * Refusals, in this order: 9, 10, and the state then stays as it is; or 1 at a
- * bit that is none, and state and counts are then those of the bits before it. */
+ * bit that is none, and state, counts and remainder are then those of the bits
+ * before it. */
 lw_counts lw_run_packed(lw_packed_state *state, const uint8_t *bits, size_t len);
 
 /* What a Polish frame tells, the time signal on 225 kHz. The seven fields behind
