@@ -15,6 +15,7 @@ use std::hint::black_box;
 
 use crate::face::{self, Block};
 use crate::independent;
+use crate::refusals::WRONG_CHECK_WORD;
 
 const GUARD: [u8; 16] = [0xA5; 16];
 
@@ -39,13 +40,50 @@ impl Guarded {
     }
 }
 
+/// A value with guards on both sides, to be lent to the library.
+#[repr(C)]
+#[derive(Debug, PartialEq)]
+struct Lent<T> {
+    before: [u8; GUARD.len()],
+    value: T,
+    after: [u8; GUARD.len()],
+}
+
+impl<T> Lent<T> {
+    fn holding(value: T) -> Self {
+        Lent { before: GUARD, value, after: GUARD }
+    }
+}
+
+/// What a chooser is lent to write to: a number and a remainder.
+#[derive(Debug, PartialEq)]
+struct Told(Lent<u8>, Lent<u16>);
+
+impl Told {
+    fn holding(number: u8, remainder: u16) -> Self {
+        Told(Lent::holding(number), Lent::holding(remainder))
+    }
+
+    /// This in every byte.
+    fn rubbish(byte: u8) -> Self {
+        Told::holding(byte, u16::from_ne_bytes([byte; 2]))
+    }
+}
+
 /// Compares a reading; gives the answer on which both agree.
 pub fn reading(bits: &[u8]) -> Block {
     let mut lent = Guarded::holding(bits);
     let answer = face::read_block(lent.content());
     let expected = Block::from(independent::read(bits));
     assert_eq!((answer, lent.after()), (expected, Guarded::holding(bits)), "reading {bits:?}");
+    must_tell_with_4_alone(answer);
     answer
+}
+
+/// With a wrong check word the remainder has one to thirteen bits, else none.
+fn must_tell_with_4_alone(answer: Block) {
+    let allowed = if answer.refusal == WRONG_CHECK_WORD { 1..=8191 } else { 0..=0 };
+    assert!(allowed.contains(&answer.remainder), "{answer:?}");
 }
 
 /// Compares a writing over a copy of `before`; gives the refusal on which both agree.
@@ -64,17 +102,20 @@ pub fn writing(code: u8, word: u32, before: &[u8]) -> u8 {
     refusal
 }
 
-/// Compares a choice with `rubbish` in the lent number; gives which was chosen
-/// and the number on which both agree.
-pub fn choosing(first: &[u8], second: &[u8], rubbish: u8) -> (u8, u8) {
-    let mut lent = [first, second, &[rubbish]].map(Guarded::holding);
-    let [one, other, number] = &mut lent;
-    let which = face::choose(one.content(), other.content(), &mut number.content()[0]);
+/// Compares a choice with `rubbish` in what is lent to be written; gives which
+/// was chosen, the number and the remainder on which both agree.
+pub fn choosing(first: &[u8], second: &[u8], rubbish: u8) -> (u8, u8, u16) {
+    let mut lent = [first, second].map(Guarded::holding);
+    let mut told = Told::rubbish(rubbish);
+    let [one, other] = &mut lent;
+    let Told(number, remainder) = &mut told;
+    let which =
+        face::choose(one.content(), other.content(), &mut number.value, &mut remainder.value);
     let expected = independent::choose(first, second);
     assert_eq!(
-        (which, lent.map(Guarded::after)),
-        (expected.0, [first, second, &[expected.1]].map(Guarded::holding)),
-        "choosing between {first:?} and {second:?}, number {rubbish} before"
+        (which, lent.map(Guarded::after), black_box(told)),
+        (expected.0, [first, second].map(Guarded::holding), Told::holding(expected.1, expected.2)),
+        "choosing between {first:?} and {second:?}, {rubbish} in every byte before"
     );
     expected
 }

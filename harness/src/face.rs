@@ -12,6 +12,9 @@ pub use polish::*;
 pub use receiver::*;
 pub use record::*;
 
+use crate::independent::Fault;
+use crate::refusals::WRONG_CHECK_WORD;
+
 /// What was read; the numbers are those of document 01.
 #[repr(C)]
 #[derive(Clone, Copy, Debug, PartialEq)]
@@ -19,25 +22,31 @@ pub struct Block {
     pub refusal: u8,
     pub code: u8,
     pub word: u32,
+    pub remainder: u16,
 }
 
 impl Block {
-    /// What a refusal gives: code and word are zeros.
+    /// What a refusal gives that tells no remainder: all else is zeros.
     pub fn refused(refusal: u8) -> Self {
-        Block { refusal, code: 0, word: 0 }
+        Block { refusal, code: 0, word: 0, remainder: 0 }
+    }
+
+    /// What a wrong check word gives, where the division leaves this.
+    pub fn leaving(remainder: u16) -> Self {
+        Block { remainder, ..Block::refused(WRONG_CHECK_WORD) }
     }
 
     /// A block that was taken.
     pub fn taken(code: u8, word: u32) -> Self {
-        Block { refusal: 0, code, word }
+        Block { refusal: 0, code, word, remainder: 0 }
     }
 }
 
-impl From<Result<(u8, u32), u8>> for Block {
-    fn from(answer: Result<(u8, u32), u8>) -> Self {
+impl From<Result<(u8, u32), Fault>> for Block {
+    fn from(answer: Result<(u8, u32), Fault>) -> Self {
         match answer {
             Ok((code, word)) => Block::taken(code, word),
-            Err(refusal) => Block::refused(refusal),
+            Err(Fault { refusal, remainder }) => Block { remainder, ..Block::refused(refusal) },
         }
     }
 }
@@ -51,6 +60,7 @@ extern "C" {
         second: *const u8,
         second_len: usize,
         number: *mut u8,
+        remainder: *mut u16,
     ) -> u8;
     fn lw_version() -> u32;
 }
@@ -68,9 +78,12 @@ pub fn write_block(code: u8, word: u32, bits: &mut [u8]) -> u8 {
     unsafe { lw_write_block(code, word, bits.as_mut_ptr(), bits.len()) }
 }
 
-/// Answers 1 for the first, 2 for the second, 0 for neither, and sets `number`.
-pub fn choose(first: &[u8], second: &[u8], number: &mut u8) -> u8 {
-    unsafe { lw_choose(first.as_ptr(), first.len(), second.as_ptr(), second.len(), number) }
+/// Answers 1 for the first, 2 for the second, 0 for neither, and sets `number`
+/// and `remainder`.
+pub fn choose(first: &[u8], second: &[u8], number: &mut u8, remainder: &mut u16) -> u8 {
+    let (first, first_len) = (first.as_ptr(), first.len());
+    let (second, second_len) = (second.as_ptr(), second.len());
+    unsafe { lw_choose(first, first_len, second, second_len, number, remainder) }
 }
 
 /// The library's version.

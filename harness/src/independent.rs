@@ -13,7 +13,7 @@ pub mod polish;
 pub mod receiver;
 pub mod record;
 
-use crate::refusals::{OUT_OF_RANGE, WRONG_LENGTH};
+use crate::refusals::{OUT_OF_RANGE, WRONG_CHECK_WORD, WRONG_LENGTH};
 
 /// Places in a block.
 pub const BLOCK: usize = 50;
@@ -50,9 +50,30 @@ pub fn bits_of(block: u64) -> [u8; BLOCK] {
     std::array::from_fn(|place| (block >> (BLOCK - 1 - place) & 1) as u8)
 }
 
+/// Why fifty bits are no block, and what is told with a wrong check word.
+#[derive(Clone, Copy, Debug, PartialEq)]
+pub struct Fault {
+    pub refusal: u8,
+    pub remainder: u16,
+}
+
+impl Fault {
+    /// A wrong check word: the division leaves this.
+    fn leaving(remainder: u64) -> Self {
+        Fault { refusal: WRONG_CHECK_WORD, remainder: remainder as u16 }
+    }
+}
+
+/// Any other refusal tells no remainder.
+impl From<u8> for Fault {
+    fn from(refusal: u8) -> Self {
+        Fault { refusal, remainder: 0 }
+    }
+}
+
 /// Code and word, or the refusal.
-pub fn read(bits: &[u8]) -> Result<(u8, u32), u8> {
-    packed::pack(bits).and_then(packed::read)
+pub fn read(bits: &[u8]) -> Result<(u8, u32), Fault> {
+    packed::read(packed::pack(bits)?)
 }
 
 /// The fifty bits to be written into a slice of `len`, or the refusal.
@@ -66,11 +87,17 @@ pub fn write(code: u8, word: u32, len: usize) -> Result<[u8; BLOCK], u8> {
     }
 }
 
-/// Which of the two holds the block, 0 for neither, and the number beside it.
-pub fn choose(first: &[u8], second: &[u8]) -> (u8, u8) {
-    match (read(first), read(second)) {
-        (Ok(_), _) => (1, 0),
-        (Err(_), Ok(_)) => (2, 0),
-        (Err(number), Err(_)) => (0, number),
+/// Which of the two holds the block, 0 for neither, and the number and the
+/// remainder beside it.
+pub fn choose(first: &[u8], second: &[u8]) -> (u8, u8, u16) {
+    between(read(first), read(second))
+}
+
+/// The same where both were read.
+fn between<T>(first: Result<T, Fault>, second: Result<T, Fault>) -> (u8, u8, u16) {
+    match (first, second) {
+        (Ok(_), _) => (1, 0, 0),
+        (Err(_), Ok(_)) => (2, 0, 0),
+        (Err(Fault { refusal, remainder }), Err(_)) => (0, refusal, remainder),
     }
 }

@@ -32,9 +32,14 @@ fn must_be_the_block(message: u64, sent: u64) {
     assert_eq!(reading(&bits_of(sent)), Block::taken(code, word));
 }
 
-/// The library must refuse these fifty bits.
+/// The library must refuse these fifty bits, and tell no remainder.
 fn must_be_refused(sent: u64, refusal: u8) {
-    assert_eq!(reading(&bits_of(sent)).refusal, refusal, "reading {sent:#o}");
+    assert_eq!(reading(&bits_of(sent)), Block::refused(refusal), "reading {sent:#o}");
+}
+
+/// The library must refuse these fifty bits for their check word, and tell this.
+fn must_leave(sent: u64, remainder: u64) {
+    assert_eq!(reading(&bits_of(sent)), Block::leaving(remainder as u16), "reading {sent:#o}");
 }
 
 #[test]
@@ -68,11 +73,28 @@ fn the_places_to_look() {
         must_be_the_block(word, PREFIX | word << 13 | check_word);
     }
     must_be_refused(0, WRONG_PREFIX);
-    must_be_refused(PREFIX | 1, WRONG_CHECK_WORD);
+    must_leave(PREFIX | 1, 1);
     for len in [49, 51] {
         let mut bits = vec![0; len];
         bits[0] = 1;
-        assert_eq!(reading(&bits).refusal, WRONG_LENGTH);
+        assert_eq!(reading(&bits), Block::refused(WRONG_LENGTH));
+    }
+}
+
+#[test]
+fn the_remainders_printed_in_the_report() {
+    // A changed message bit leaves what the report prints as the check word of
+    // that bit alone, and a changed bit of the check word leaves itself.
+    for good in [PREFIX, REPORT_ONE, REPORT_ALL_ONES] {
+        for (row, digits) in FIGURE_9.iter().enumerate() {
+            must_leave(good ^ 1 << (48 - row), digits & 0o17777);
+        }
+        for place in 0..13 {
+            must_leave(good ^ 1 << place, 1 << place);
+        }
+        // All of them, and two rows together.
+        must_leave(good ^ 0o17777, 0o17777);
+        must_leave(good ^ 0b11 << 47, FIGURE_9[0] ^ FIGURE_9[1]);
     }
 }
 
@@ -83,15 +105,15 @@ fn the_prefix_is_tested_and_not_divided() {
     assert_eq!(remainder(divides ^ PREFIX), 0);
     must_be_refused(divides, WRONG_PREFIX);
     // Here the check word is taken over the prefix too.
-    must_be_refused(PREFIX | divides, WRONG_CHECK_WORD);
+    must_leave(PREFIX | divides, divides);
 }
 
 #[test]
 fn tests_come_in_their_order() {
     let mut bits = bits_of(0);
     bits[49] = 7;
-    assert_eq!(reading(&bits).refusal, NOT_A_BIT, "before the prefix");
-    assert_eq!(reading(&bits[1..]).refusal, WRONG_LENGTH, "before the bits");
+    assert_eq!(reading(&bits), Block::refused(NOT_A_BIT), "before the prefix");
+    assert_eq!(reading(&bits[1..]), Block::refused(WRONG_LENGTH), "before the bits");
     must_be_refused(1, WRONG_PREFIX);
     assert_eq!(writing(16, 0, &bits[1..]), WRONG_LENGTH, "before the code");
     assert_eq!(writing(16, 0, &bits), OUT_OF_RANGE);
@@ -175,8 +197,9 @@ fn every_small_change_and_every_short_burst() {
     report("small changes and short bursts", count);
 }
 
-/// One slice of each kind that the chooser can be lent, and its refusal.
-fn kinds() -> Vec<(u8, Vec<u8>)> {
+/// One slice of each kind that the chooser can be lent, its refusal, and the
+/// remainder that it tells.
+fn kinds() -> Vec<(u8, u16, Vec<u8>)> {
     let good = bits_of(REPORT_ALL_ONES);
     let with = |place: usize, value: u8| {
         let mut bits = good;
@@ -184,34 +207,45 @@ fn kinds() -> Vec<(u8, Vec<u8>)> {
         bits.to_vec()
     };
     vec![
-        (0, good.to_vec()),
-        (0, bits_of(REPORT_ONE).to_vec()),
-        (NOT_A_BIT, with(0, 2)),
-        (NOT_A_BIT, with(49, 255)),
-        (WRONG_PREFIX, with(0, 0)),
-        (WRONG_CHECK_WORD, with(1, 0)),
-        (WRONG_CHECK_WORD, with(49, 1)),
-        (WRONG_LENGTH, vec![]),
-        (WRONG_LENGTH, good[..49].to_vec()),
-        (WRONG_LENGTH, [&good[..], &[0]].concat()),
-        (WRONG_LENGTH, good.repeat(2)),
+        (0, 0, good.to_vec()),
+        (0, 0, bits_of(REPORT_ONE).to_vec()),
+        (NOT_A_BIT, 0, with(0, 2)),
+        (NOT_A_BIT, 0, with(49, 255)),
+        (WRONG_PREFIX, 0, with(0, 0)),
+        (WRONG_CHECK_WORD, FIGURE_9[0] as u16, with(1, 0)),
+        (WRONG_CHECK_WORD, 1, with(49, 1)),
+        (WRONG_LENGTH, 0, vec![]),
+        (WRONG_LENGTH, 0, good[..49].to_vec()),
+        (WRONG_LENGTH, 0, [&good[..], &[0]].concat()),
+        (WRONG_LENGTH, 0, good.repeat(2)),
     ]
 }
 
 #[test]
 fn the_chooser_over_every_pair_of_kinds() {
-    for (first_refusal, first) in kinds() {
-        for (second_refusal, second) in kinds() {
+    for (first_refusal, remainder, first) in kinds() {
+        for (second_refusal, _, second) in kinds() {
             let expected = match (first_refusal, second_refusal) {
-                (0, _) => (1, 0),
-                (_, 0) => (2, 0),
-                (number, _) => (0, number),
+                (0, _) => (1, 0, 0),
+                (_, 0) => (2, 0, 0),
+                (number, _) => (0, number, remainder),
             };
             for rubbish in 0..=255 {
                 assert_eq!(choosing(&first, &second, rubbish), expected);
             }
         }
     }
+}
+
+#[test]
+fn the_chooser_tells_the_remainder_of_the_first_alone() {
+    // A changed bit of the check word leaves itself.
+    let [good, one, four, no_prefix] =
+        [0, 1, 4, PREFIX | 1].map(|change| bits_of(REPORT_ONE ^ change));
+    assert_eq!(choosing(&good, &one, 9), (1, 0, 0));
+    assert_eq!(choosing(&one, &good, 9), (2, 0, 0));
+    assert_eq!(choosing(&one, &four, 9), (0, WRONG_CHECK_WORD, 1));
+    assert_eq!(choosing(&no_prefix, &one, 9), (0, WRONG_PREFIX, 0));
 }
 
 /// A good block, damaged in a way that the random numbers choose, or not at all.

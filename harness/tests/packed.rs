@@ -28,15 +28,19 @@ fn the_places_to_look() {
         assert_eq!(reading_packed(sent), Block::taken(0, word));
     }
     assert_eq!(reading_packed(0), Block::refused(WRONG_PREFIX));
-    assert_eq!(reading_packed(PREFIX | 1), Block::refused(WRONG_CHECK_WORD));
+    assert_eq!(reading_packed(PREFIX | 1), Block::leaving(1));
     // With its first bit inverted this divides evenly, and yet it is no block.
     assert_eq!(reading_packed(remainder(PREFIX)), Block::refused(WRONG_PREFIX));
 }
 
 #[test]
 fn tests_come_in_their_order() {
-    assert_eq!(reading_packed(PREFIX * 2).refusal, NUMBER_TOO_WIDE, "before the prefix");
-    assert_eq!(reading_packed(1).refusal, WRONG_PREFIX, "before the check word");
+    assert_eq!(
+        reading_packed(PREFIX * 2 + 1),
+        Block::refused(NUMBER_TOO_WIDE),
+        "before the prefix"
+    );
+    assert_eq!(reading_packed(1), Block::refused(WRONG_PREFIX), "before the check word");
     assert_eq!(packing(&[7; BLOCK - 1]).refusal, WRONG_LENGTH, "before the bits");
     assert_eq!(unpacking(u64::MAX, &[7; BLOCK - 1]), WRONG_LENGTH, "before the number");
 }
@@ -49,12 +53,12 @@ fn every_bit_above_place_49() {
             let number = start | 1 << place;
             assert_eq!(reading_packed(number), Block::refused(NUMBER_TOO_WIDE), "{place}");
             assert_eq!(unpacking(number, &[9; BLOCK]), NUMBER_TOO_WIDE, "place {place}");
-            assert_eq!(choosing_packed(number, good, 0xA5), (2, 0), "place {place}");
-            assert_eq!(choosing_packed(good, number, 0xA5), (1, 0), "place {place}");
+            assert_eq!(choosing_packed(number, good, 0xA5), (2, 0, 0), "place {place}");
+            assert_eq!(choosing_packed(good, number, 0xA5), (1, 0, 0), "place {place}");
         }
         // And every set of them.
         for above in 1..1 << ABOVE.len() {
-            assert_eq!(reading_packed(start | above << 50).refusal, NUMBER_TOO_WIDE);
+            assert_eq!(reading_packed(start | above << 50), Block::refused(NUMBER_TOO_WIDE));
         }
     }
     assert_eq!(reading_packed(u64::MAX), Block::refused(NUMBER_TOO_WIDE));
@@ -137,35 +141,48 @@ fn every_byte_value_at_every_place() {
     }
 }
 
-/// One number of each kind that the chooser can be given, and its refusal.
-fn kinds() -> [(u8, u64); 9] {
+/// One number of each kind that the chooser can be given, its refusal, and the
+/// remainder that it tells.
+fn kinds() -> [(u8, u16, u64); 9] {
     [
-        (0, ONE),
-        (0, block(15, u32::MAX)),
-        (WRONG_PREFIX, 0),
-        (WRONG_PREFIX, ONE ^ PREFIX),
-        (WRONG_CHECK_WORD, ONE ^ 1),
-        (WRONG_CHECK_WORD, LARGEST),
-        (NUMBER_TOO_WIDE, ONE | 1 << 50),
-        (NUMBER_TOO_WIDE, 1 << 63),
-        (NUMBER_TOO_WIDE, u64::MAX),
+        (0, 0, ONE),
+        (0, 0, block(15, u32::MAX)),
+        (WRONG_PREFIX, 0, 0),
+        (WRONG_PREFIX, 0, ONE ^ PREFIX),
+        (WRONG_CHECK_WORD, 1, ONE ^ 1),
+        // The report prints the check word of 36 ones.
+        (WRONG_CHECK_WORD, 0o17777 ^ 0o02722, LARGEST),
+        (NUMBER_TOO_WIDE, 0, ONE | 1 << 50),
+        (NUMBER_TOO_WIDE, 0, 1 << 63),
+        (NUMBER_TOO_WIDE, 0, u64::MAX),
     ]
 }
 
 #[test]
 fn the_chooser_over_every_pair_of_kinds() {
-    for (first_refusal, first) in kinds() {
-        for (second_refusal, second) in kinds() {
+    for (first_refusal, remainder, first) in kinds() {
+        for (second_refusal, _, second) in kinds() {
             let expected = match (first_refusal, second_refusal) {
-                (0, _) => (1, 0),
-                (_, 0) => (2, 0),
-                (number, _) => (0, number),
+                (0, _) => (1, 0, 0),
+                (_, 0) => (2, 0, 0),
+                (number, _) => (0, number, remainder),
             };
             for rubbish in 0..=255 {
                 assert_eq!(choosing_packed(first, second, rubbish), expected);
             }
         }
     }
+}
+
+#[test]
+fn the_chooser_tells_the_remainder_of_the_first_alone() {
+    // A changed bit of the check word leaves itself.
+    let [one, four, wide] = [ONE ^ 1, ONE ^ 4, (ONE ^ 1) | 1 << 50];
+    assert_eq!(choosing_packed(ONE, one, 9), (1, 0, 0));
+    assert_eq!(choosing_packed(one, ONE, 9), (2, 0, 0));
+    assert_eq!(choosing_packed(one, four, 9), (0, WRONG_CHECK_WORD, 1));
+    assert_eq!(choosing_packed(one ^ PREFIX, one, 9), (0, WRONG_PREFIX, 0));
+    assert_eq!(choosing_packed(wide, one, 9), (0, NUMBER_TOO_WIDE, 0));
 }
 
 /// Half of these are the good block or one change away from it.

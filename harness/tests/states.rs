@@ -277,6 +277,10 @@ fn must_be_two_runs<S: Copy + Debug + PartialEq>(
         bad: one.bad + other.bad,
         passed: one.passed + other.passed,
         waiting: other.waiting,
+        remainder: match other.remainder {
+            0 => one.remainder,
+            later => later,
+        },
     };
     assert_eq!((counts, whole), (sum, parts), "split after {} bits", first.len());
 }

@@ -1,7 +1,9 @@
 //! The block as one number: each call beside the independent program, and
 //! beside the call on bytes where the number has fifty of them.
 
-use super::Guarded;
+use std::hint::black_box;
+
+use super::{must_tell_with_4_alone, Guarded, Told};
 use crate::face::{self, Block, Packed};
 use crate::independent::packed::{self, LARGEST};
 use crate::independent::{bits_of, BLOCK};
@@ -13,6 +15,7 @@ pub fn reading_packed(block: u64) -> Block {
     if block <= LARGEST {
         assert_eq!(answer, face::read_block(&bits_of(block)), "reading the bits of {block:#o}");
     }
+    must_tell_with_4_alone(answer);
     answer
 }
 
@@ -30,21 +33,24 @@ pub fn writing_packed(code: u8, word: u32) -> Packed {
     answer
 }
 
-/// Compares a choice with `rubbish` in the lent number; gives which was chosen
-/// and the number on which all agree.
-pub fn choosing_packed(first: u64, second: u64, rubbish: u8) -> (u8, u8) {
-    let mut lent = Guarded::holding(&[rubbish]);
-    let which = face::choose_packed(first, second, &mut lent.content()[0]);
+/// Compares a choice with `rubbish` in what is lent to be written; gives which
+/// was chosen, the number and the remainder on which all agree.
+pub fn choosing_packed(first: u64, second: u64, rubbish: u8) -> (u8, u8, u16) {
+    let mut told = Told::rubbish(rubbish);
+    let Told(number, remainder) = &mut told;
+    let which = face::choose_packed(first, second, &mut number.value, &mut remainder.value);
     let expected = packed::choose(first, second);
     assert_eq!(
-        (which, lent.after()),
-        (expected.0, Guarded::holding(&[expected.1])),
-        "choosing between {first:#o} and {second:#o}, number {rubbish} before"
+        (which, black_box(told)),
+        (expected.0, Told::holding(expected.1, expected.2)),
+        "choosing between {first:#o} and {second:#o}, {rubbish} in every byte before"
     );
     if first.max(second) <= LARGEST {
-        let mut number = rubbish;
-        let which = face::choose(&bits_of(first), &bits_of(second), &mut number);
-        assert_eq!((which, number), expected, "the bits of {first:#o} and {second:#o}");
+        let bits = [first, second].map(bits_of);
+        let (mut number, mut remainder) = (rubbish, rubbish.into());
+        let which = face::choose(&bits[0], &bits[1], &mut number, &mut remainder);
+        let answer = (which, number, remainder);
+        assert_eq!(answer, expected, "the bits of {first:#o} and {second:#o}");
     }
     expected
 }

@@ -4,26 +4,11 @@
 use std::fmt::Debug;
 use std::hint::black_box;
 
-use super::{Guarded, GUARD};
+use super::{Guarded, Lent};
 use crate::face::{self, Counts, PackedState, State};
 use crate::independent::packed_state::{self, packed, unpacked};
 use crate::independent::receiver::{is_proper, History, RUN};
 use crate::refusals::{IMPROPER, RUN_TOO_LONG};
-
-/// A state with guards on both sides, to be lent to the library.
-#[repr(C)]
-#[derive(Debug, PartialEq)]
-struct Lent<S> {
-    before: [u8; GUARD.len()],
-    state: S,
-    after: [u8; GUARD.len()],
-}
-
-impl<S> Lent<S> {
-    fn holding(state: S) -> Self {
-        Lent { before: GUARD, state, after: GUARD }
-    }
-}
 
 /// A state of bits in the fifty bytes and in the packed layout.
 #[derive(Debug, PartialEq)]
@@ -73,8 +58,8 @@ impl Receiver {
     pub fn feed(&mut self, bit: u8) -> Counts {
         let mut lent = Both::holding(self.state);
         let answers = [
-            face::feed(&mut lent.bytes.state, bit),
-            face::feed_packed(&mut lent.number.state, bit),
+            face::feed(&mut lent.bytes.value, bit),
+            face::feed_packed(&mut lent.number.value, bit),
         ];
         let expected = self.history.run(&[bit]);
         self.agree((answers, lent), expected, || format!("feeding {bit}"));
@@ -86,8 +71,8 @@ impl Receiver {
         let mut lent = Both::holding(self.state);
         let mut lent_bits = Guarded::holding(bits);
         let answers = [
-            face::run(&mut lent.bytes.state, lent_bits.content()),
-            face::run_packed(&mut lent.number.state, lent_bits.content()),
+            face::run(&mut lent.bytes.value, lent_bits.content()),
+            face::run_packed(&mut lent.number.value, lent_bits.content()),
         ];
         let expected = self.history.run(bits);
         assert!(lent_bits.after() == Guarded::holding(bits), "a run changed its bits");
@@ -132,11 +117,11 @@ fn must_be_refused<S: Copy + Debug + PartialEq>(
     let mut lent = Lent::holding(state);
     for bit in [0, 1, 2, 255] {
         let refused = Counts::refused(IMPROPER);
-        assert_eq!(feed(&mut lent.state, bit), refused, "feeding {bit} to {state:?}");
-        assert_eq!(run(&mut lent.state, &[bit]), refused, "a run of {bit}, {state:?}");
+        assert_eq!(feed(&mut lent.value, bit), refused, "feeding {bit} to {state:?}");
+        assert_eq!(run(&mut lent.value, &[bit]), refused, "a run of {bit}, {state:?}");
     }
     for (len, refusal) in [(0, IMPROPER), (RUN, IMPROPER), (RUN + 1, RUN_TOO_LONG)] {
-        let answer = run(&mut lent.state, &[1; RUN + 1][..len]);
+        let answer = run(&mut lent.value, &[1; RUN + 1][..len]);
         assert_eq!(answer, Counts::refused(refusal), "a run of {len} bits, {state:?}");
     }
     assert_eq!(black_box(lent), Lent::holding(state), "a refused state");

@@ -21,7 +21,7 @@ impl From<Result<u64, u8>> for Packed {
 extern "C" {
     fn lw_read_packed(block: u64) -> Block;
     fn lw_write_packed(code: u8, word: u32) -> Packed;
-    fn lw_choose_packed(first: u64, second: u64, number: *mut u8) -> u8;
+    fn lw_choose_packed(first: u64, second: u64, number: *mut u8, remainder: *mut u16) -> u8;
     fn lw_pack(bits: *const u8, len: usize) -> Packed;
     fn lw_unpack(block: u64, bits: *mut u8, len: usize) -> u8;
 }
@@ -38,9 +38,10 @@ pub fn write_packed(code: u8, word: u32) -> Packed {
     unsafe { lw_write_packed(code, word) }
 }
 
-/// Answers 1 for the first, 2 for the second, 0 for neither, and sets `number`.
-pub fn choose_packed(first: u64, second: u64, number: &mut u8) -> u8 {
-    unsafe { lw_choose_packed(first, second, number) }
+/// Answers 1 for the first, 2 for the second, 0 for neither, and sets `number`
+/// and `remainder`.
+pub fn choose_packed(first: u64, second: u64, number: &mut u8, remainder: &mut u16) -> u8 {
+    unsafe { lw_choose_packed(first, second, number, remainder) }
 }
 
 /// Fifty bits as a number.

@@ -49,10 +49,11 @@ pub struct Counts {
     pub bad: u32,
     pub passed: u32,
     pub waiting: u32,
+    pub remainder: u16,
 }
 
 impl Counts {
-    /// What a refusal with 9 or 10 gives: all counts are 0.
+    /// What a refusal with 9 or 10 gives: all counts and the remainder are 0.
     pub fn refused(refusal: u8) -> Self {
         Counts { refusal, ..Counts::default() }
     }

@@ -1,26 +1,25 @@
 //! The block that stays one number: bit 49 is the first sent, and nothing
 //! stands above it.
 
-use super::{bits_of, block, remainder, BLOCK, PREFIX};
-use crate::refusals::{
-    NOT_A_BIT, NUMBER_TOO_WIDE, OUT_OF_RANGE, WRONG_CHECK_WORD, WRONG_LENGTH, WRONG_PREFIX,
-};
+use super::{between, bits_of, block, remainder, Fault, BLOCK, PREFIX};
+use crate::refusals::{NOT_A_BIT, NUMBER_TOO_WIDE, OUT_OF_RANGE, WRONG_LENGTH, WRONG_PREFIX};
 
 /// The largest number of fifty bits.
 pub const LARGEST: u64 = PREFIX * 2 - 1;
 
 /// Code and word, or the refusal.
-pub fn read(block: u64) -> Result<(u8, u32), u8> {
+pub fn read(block: u64) -> Result<(u8, u32), Fault> {
     if block > LARGEST {
-        return Err(NUMBER_TOO_WIDE);
+        return Err(NUMBER_TOO_WIDE.into());
     }
     if block & PREFIX == 0 {
-        return Err(WRONG_PREFIX);
+        return Err(WRONG_PREFIX.into());
     }
-    // Message and check word together divide evenly exactly when the check
+    // All fifty bits, the first inverted, divide evenly exactly when the check
     // word is the remainder.
-    if remainder(block ^ PREFIX) != 0 {
-        return Err(WRONG_CHECK_WORD);
+    let left = remainder(block ^ PREFIX);
+    if left != 0 {
+        return Err(Fault::leaving(left));
     }
     Ok(((block >> 45 & 15) as u8, (block >> 13) as u32))
 }
@@ -33,13 +32,10 @@ pub fn write(code: u8, word: u32) -> Result<u64, u8> {
     Ok(block(code, word))
 }
 
-/// Which of the two is the block, 0 for neither, and the number beside it.
-pub fn choose(first: u64, second: u64) -> (u8, u8) {
-    match (read(first), read(second)) {
-        (Ok(_), _) => (1, 0),
-        (Err(_), Ok(_)) => (2, 0),
-        (Err(number), Err(_)) => (0, number),
-    }
+/// Which of the two is the block, 0 for neither, and the number and the
+/// remainder beside it.
+pub fn choose(first: u64, second: u64) -> (u8, u8, u16) {
+    between(read(first), read(second))
 }
 
 /// Fifty bits, a good block or not, as a number, or the refusal.

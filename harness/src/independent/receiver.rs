@@ -1,9 +1,9 @@
-//! The receiver as a history: every bit ever heard is kept, and mode, time and
-//! counts are read off the places where blocks ended in it.
+//! The receiver as a history: every bit ever heard is kept, and mode, time,
+//! counts and remainder are read off the places where blocks ended in it.
 
-use super::{calendar, read, record, BLOCK};
+use super::{calendar, read, record, Fault, BLOCK};
 use crate::face::{Counts, Record, State, CANDIDATE, CONFIRMED, HUNTING, LOCKED, NO_TIME, TRYING};
-use crate::refusals::{NOT_A_BIT, RUN_TOO_LONG};
+use crate::refusals::{NOT_A_BIT, RUN_TOO_LONG, WRONG_CHECK_WORD, WRONG_PREFIX};
 
 /// The longest run.
 pub const RUN: usize = 65_536;
@@ -17,6 +17,9 @@ const LOSING: usize = 4;
 /// Blocks in a minute, and so from one time block to the next.
 pub const MINUTE: usize = 30;
 
+/// Good, or bad in some way.
+type Verdict = Result<(), Fault>;
+
 /// A search for blocks, which begins where the one before was given up.
 #[derive(Default)]
 struct Search {
@@ -24,8 +27,8 @@ struct Search {
     /// Where its first good window begins; from there on every fifty bits are
     /// a block.
     start: Option<usize>,
-    /// Which blocks were good.
-    blocks: Vec<bool>,
+    /// Which blocks were good, and how the others failed.
+    blocks: Vec<Verdict>,
     /// The usable time blocks behind those that gave lock.
     times: Vec<Time>,
 }
@@ -47,7 +50,7 @@ impl Search {
     }
 
     /// The blocks that ended after `heard` bits.
-    fn blocks_since(&self, heard: usize) -> &[bool] {
+    fn blocks_since(&self, heard: usize) -> &[Verdict] {
         let ended = self.start.map_or(0, |start| heard.saturating_sub(start) / BLOCK);
         &self.blocks[ended..]
     }
@@ -57,13 +60,12 @@ impl Search {
     }
 
     fn is_given_up(&self) -> bool {
-        self.blocks.iter().take(LOCKING).any(|good| !good)
-            || self.blocks.ends_with(&[false; LOSING])
+        self.blocks.iter().take(LOCKING).any(Verdict::is_err) || self.bad_run() >= LOSING
     }
 
     /// Bad blocks at the end.
     fn bad_run(&self) -> usize {
-        self.blocks.iter().rev().take_while(|&good| !good).count()
+        self.blocks.iter().rev().take_while(|verdict| verdict.is_err()).count()
     }
 
     /// The last usable time block, if it is less than a minute old, with its
@@ -78,9 +80,9 @@ impl Search {
     fn judge(&mut self, bits: &[u8]) {
         let place = self.blocks.len();
         let read = read(bits);
-        self.blocks.push(read.is_ok());
-        let record = read.and_then(|(code, word)| record::read(code, word));
-        if let Some(record) = record.ok().filter(calendar::usable) {
+        self.blocks.push(read.map(drop));
+        let record = read.ok().and_then(|(code, word)| record::read(code, word).ok());
+        if let Some(record) = record.filter(calendar::usable) {
             if place >= LOCKING {
                 let confirmed = self.confirmed_by(place, &record);
                 self.times.push(Time { block: place, record, confirmed });
@@ -116,10 +118,10 @@ impl History {
     pub fn leading_to(state: &State) -> Self {
         let mut search = Search::default();
         match state.mode {
-            TRYING => search.blocks = vec![true; state.good.into()],
+            TRYING => search.blocks = vec![Ok(()); state.good.into()],
             LOCKED => {
-                search.blocks = vec![true; LOCKING + MINUTE];
-                search.blocks.extend(vec![false; state.bad.into()]);
+                search.blocks = vec![Ok(()); LOCKING + MINUTE];
+                search.blocks.extend(vec![Err(WRONG_PREFIX.into()); state.bad.into()]);
             }
             _ => {}
         }
@@ -184,17 +186,20 @@ impl History {
     pub fn counts_since(&self, before: usize) -> Counts {
         let waiting = self.waiting() as u32;
         let mut counts = Counts { waiting, ..Counts::default() };
+        let mut told = None;
         for search in self.searches.iter().rev() {
             let blocks = search.blocks_since(before);
-            let good = blocks.iter().filter(|&&good| good).count();
+            let good = blocks.iter().filter(|verdict| verdict.is_ok()).count();
             counts.good += good as u32;
             counts.bad += (blocks.len() - good) as u32;
+            // The last search comes first, and the last remainder told counts.
+            told = told.or_else(|| last_told(blocks));
             counts.passed += (search.passed(self.heard()) - search.passed(before)) as u32;
             if search.from <= before {
                 break;
             }
         }
-        counts
+        Counts { remainder: told.unwrap_or(0), ..counts }
     }
 
     fn waiting(&self) -> usize {
@@ -225,6 +230,13 @@ impl History {
         }
         state
     }
+}
+
+/// The remainder of the last block with a wrong check word, if there is one.
+fn last_told(blocks: &[Verdict]) -> Option<u16> {
+    let faults = blocks.iter().rev().filter_map(|verdict| verdict.err());
+    let mut told = faults.filter(|fault| fault.refusal == WRONG_CHECK_WORD);
+    told.next().map(|fault| fault.remainder)
 }
 
 /// Whether a state is proper.
