@@ -29,6 +29,7 @@ extern "C" {
 // As with blocks of bytes, slices and references stand behind the pointers.
 
 /// Reads a block from a number.
+#[inline]
 pub fn read_packed(block: u64) -> Block {
     unsafe { lw_read_packed(block) }
 }

@@ -2,7 +2,7 @@
 
 use harness::face::Block;
 use harness::independent::{BLOCK, GENERATOR};
-use harness::refusals::{NOT_A_BIT, OUT_OF_RANGE, WRONG_CHECK_WORD, WRONG_LENGTH, WRONG_PREFIX};
+use harness::refusals::{NOT_A_BIT, OUT_OF_RANGE, WRONG_LENGTH, WRONG_PREFIX};
 
 use crate::bits::{number_of, spread};
 
@@ -34,8 +34,9 @@ pub fn read(bits: &[u8]) -> Block {
         register = step(register, bit);
         message = message << 1 | u64::from(bit);
     }
-    if register != number_of(&bits[37..]) {
-        return Block::refused(WRONG_CHECK_WORD);
+    let left = register ^ number_of(&bits[37..]);
+    if left != 0 {
+        return Block::leaving(left);
     }
     Block::taken((message >> 32) as u8, message as u32)
 }

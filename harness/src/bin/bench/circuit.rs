@@ -1,13 +1,13 @@
 //! The receiver by hand on numbers: the waiting bits are one number, and beside
 //! it the division circuit's register turns once for each bit, in every mode.
 
-use harness::face::{Block, Counts, PackedState, State, HUNTING, LOCKED};
+use harness::face::{Counts, PackedState, State, HUNTING, LOCKED};
 use harness::independent::packed_state::{is_proper, packed, unpacked};
 use harness::independent::receiver::{self, RUN};
 use harness::independent::{remainder, BLOCK, GENERATOR, PREFIX};
 use harness::refusals::{IMPROPER, NOT_A_BIT, RUN_TOO_LONG};
 
-use crate::standing::{count, Standing};
+use crate::standing::{count, tell, Said, Standing};
 
 /// What the first of fifty bits put into the register.
 const FIRST: u64 = remainder(PREFIX);
@@ -56,9 +56,9 @@ impl Window {
         first == 1 && self.register == 0
     }
 
-    /// The block of a good window without its first bit.
-    fn block(self) -> Block {
-        Block::taken((self.bits >> 45) as u8, (self.bits >> 13) as u32)
+    /// What a good window says, without its first bit.
+    fn said(self) -> Said {
+        Said { code: (self.bits >> 45) as u8, word: (self.bits >> 13) as u32 }
     }
 }
 
@@ -89,13 +89,17 @@ impl Circuit {
         if self.window.waiting < BLOCK {
             return false;
         }
+        let first = self.window.bits >> (BLOCK - 1);
         let good = self.window.pass_first();
         if self.standing.mode == HUNTING && !good {
             counts.passed += 1;
             return false;
         }
         count(good, counts);
-        self.standing = self.standing.after(good.then_some(self.window.block()));
+        if first == 1 {
+            tell(self.window.register as u16, counts);
+        }
+        self.standing = self.standing.after(good.then_some(self.window.said()));
         self.window = Window::default();
         true
     }

@@ -3,7 +3,7 @@
 
 use harness::face::{Block, Packed};
 use harness::independent::{GENERATOR, PREFIX};
-use harness::refusals::{NUMBER_TOO_WIDE, OUT_OF_RANGE, WRONG_CHECK_WORD, WRONG_PREFIX};
+use harness::refusals::{NUMBER_TOO_WIDE, OUT_OF_RANGE, WRONG_PREFIX};
 
 /// The thirteen places of the register, at the top of a number.
 const REGISTER: u32 = 64 - 13;
@@ -22,15 +22,16 @@ fn left_of(bits: u64) -> u64 {
     number >> REGISTER
 }
 
-pub fn read(block: u64) -> Block {
+pub extern "C" fn read(block: u64) -> Block {
     if block >= PREFIX * 2 {
         return Block::refused(NUMBER_TOO_WIDE);
     }
     if block < PREFIX {
         return Block::refused(WRONG_PREFIX);
     }
-    if left_of(block ^ PREFIX) != 0 {
-        return Block::refused(WRONG_CHECK_WORD);
+    let left = left_of(block ^ PREFIX);
+    if left != 0 {
+        return Block::leaving(left as u16);
     }
     Block::taken((block >> 45 & 15) as u8, (block >> 13) as u32)
 }

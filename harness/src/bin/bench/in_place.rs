@@ -6,7 +6,8 @@ use harness::face::{Counts, State, HUNTING};
 use harness::independent::{bits_of, remainder, BLOCK, GENERATOR, PREFIX};
 use harness::refusals::NOT_A_BIT;
 
-use crate::stepwise::{good, refused, take};
+use crate::stepwise::{refused, take};
+use crate::table;
 
 /// What the remainder of a good window is: that of its prefix alone.
 const GOOD: u64 = remainder(PREFIX);
@@ -51,7 +52,7 @@ fn hunt<'a>(state: &mut State, bits: &'a [u8], counts: &mut Counts) -> &'a [u8] 
             continue;
         }
         if fault == GOOD && window & PREFIX != 0 {
-            take(state, good(&bits_of(window)), counts);
+            take(state, table::read(&bits_of(window)), counts);
             return &bits[place + 1..];
         }
         waiting -= 1;
@@ -69,13 +70,13 @@ fn take_block<'a>(state: &mut State, bits: &'a [u8], counts: &mut Counts) -> &'a
     let waiting = usize::from(state.waiting);
     let (part, left) = bits.split_at((BLOCK - waiting).min(bits.len()));
     if part.len() == BLOCK {
-        take(state, good(part), counts);
+        take(state, table::read(part), counts);
         return left;
     }
     state.bits[waiting..][..part.len()].copy_from_slice(part);
     state.waiting += part.len() as u8;
     if usize::from(state.waiting) == BLOCK {
-        let read = good(&state.bits);
+        let read = table::read(&state.bits);
         take(state, read, counts);
     }
     left

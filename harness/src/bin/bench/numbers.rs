@@ -11,12 +11,13 @@ use crate::blocks::{to_write, BLOCKS, ROUNDS};
 use crate::contest::{best_times, show};
 use crate::{circuit_number, table_number};
 
-// Called through pointers, as the blocks of bytes are.
-type Reader = fn(u64) -> Block;
+// Called through pointers, as the blocks of bytes are. Reading is so short that
+// it is called as C does it: the answer then comes back in registers.
+type Reader = extern "C" fn(u64) -> Block;
 type Writer = fn(u8, u32) -> Packed;
 
 const NAMES: [&str; 3] = ["product", "circuit", "table"];
-const READERS: [Reader; 3] = [face::read_packed, circuit_number::read, table_number::read];
+const READERS: [Reader; 3] = [read_by_product, circuit_number::read, table_number::read];
 const WRITERS: [Writer; 3] = [face::write_packed, circuit_number::write, table_number::write];
 
 pub fn measure() {
@@ -29,6 +30,10 @@ pub fn measure() {
     let messages: Vec<(u8, u32)> = (0..BLOCKS).map(|_| to_write(&mut random)).collect();
     let best = best_times(ROUNDS, NAMES, WRITERS, |write| write_all(write, &messages));
     show("write, packed", NAMES, best, BLOCKS, "blocks");
+}
+
+extern "C" fn read_by_product(block: u64) -> Block {
+    face::read_packed(block)
 }
 
 fn to_read(random: &mut Random) -> u64 {

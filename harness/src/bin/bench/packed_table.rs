@@ -9,7 +9,7 @@ use harness::independent::BLOCK;
 use harness::refusals::{IMPROPER, NOT_A_BIT, RUN_TOO_LONG};
 
 use crate::circuit::Circuit;
-use crate::standing::{count, Standing};
+use crate::standing::{count_read, Standing};
 use crate::table_number;
 
 pub fn run(state: &mut PackedState, bits: &[u8]) -> Counts {
@@ -64,9 +64,8 @@ fn take_block<'a>(state: &mut PackedState, bits: &'a [u8], counts: &mut Counts) 
         state.waiting = waits as u8;
         return left;
     }
-    let read = Some(table_number::read(number)).filter(|block| block.refusal == 0);
-    count(read.is_some(), counts);
-    *state = Standing::of_packed(state).after(read).with_number(0, 0);
+    let good = count_read(table_number::read(number), counts);
+    *state = Standing::of_packed(state).after(good).with_number(0, 0);
     left
 }
 

@@ -8,6 +8,13 @@ use harness::independent::{record, BLOCK};
 
 use crate::clock;
 
+/// What a good block says.
+#[derive(Clone, Copy)]
+pub struct Said {
+    pub code: u8,
+    pub word: u32,
+}
+
 #[derive(Clone, Copy, Default)]
 pub struct Standing {
     pub mode: u8,
@@ -45,7 +52,7 @@ impl Standing {
     /// one. By value and never inlined, so that a loop over bits may keep all it
     /// works on in registers.
     #[inline(never)]
-    pub fn after(self, read: Option<Block>) -> Self {
+    pub fn after(self, read: Option<Said>) -> Self {
         match (self.mode, read) {
             (LOCKED, Some(_)) => Standing { bad: 0, ..self.offered(read) },
             (LOCKED, None) if self.bad < 3 => Standing { bad: self.bad + 1, ..self.offered(read) },
@@ -56,7 +63,7 @@ impl Standing {
     }
 
     /// The block as it is offered to the time.
-    fn offered(self, read: Option<Block>) -> Self {
+    fn offered(self, read: Option<Said>) -> Self {
         let age = self.age + u8::from(self.time != NO_TIME);
         if let Some(record) = read.and_then(usable) {
             let held = Record { offset: record.offset, ..self.record };
@@ -78,7 +85,24 @@ pub fn count(good: bool, counts: &mut Counts) {
     counts.bad += u32::from(!good);
 }
 
+/// Keeps the remainder that a bad block tells; 0 leaves the one before.
+#[inline]
+pub fn tell(remainder: u16, counts: &mut Counts) {
+    if remainder != 0 {
+        counts.remainder = remainder;
+    }
+}
+
+/// Counts what was read, keeps what it tells, and answers what a good block says.
+#[inline]
+pub fn count_read(read: Block, counts: &mut Counts) -> Option<Said> {
+    let good = read.refusal == 0;
+    count(good, counts);
+    tell(read.remainder, counts);
+    good.then_some(Said { code: read.code, word: read.word })
+}
+
 /// What a usable time block tells.
-fn usable(block: Block) -> Option<Record> {
-    record::read(block.code, block.word).ok().filter(clock::usable)
+fn usable(said: Said) -> Option<Record> {
+    record::read(said.code, said.word).ok().filter(clock::usable)
 }

@@ -6,7 +6,7 @@ use harness::independent::receiver::{is_proper, RUN};
 use harness::independent::BLOCK;
 use harness::refusals::{IMPROPER, NOT_A_BIT, RUN_TOO_LONG};
 
-use crate::standing::{count, Standing};
+use crate::standing::{count_read, Standing};
 use crate::table;
 
 /// Whether a run is refused before its first bit, and with what.
@@ -47,28 +47,29 @@ fn step(state: &mut State, bit: u8, counts: &mut Counts) {
 }
 
 fn judge(state: &mut State, counts: &mut Counts) {
-    // Half of all windows fail at their first bit, without a division.
     let hunting = state.mode == HUNTING;
-    let read = if hunting && state.bits[0] == 0 { None } else { good(&state.bits) };
-    if hunting && read.is_none() {
-        state.bits.copy_within(1.., 0);
-        state.bits[BLOCK - 1] = 0;
-        state.waiting -= 1;
-        counts.passed += 1;
+    // Half of all windows fail at their first bit, without a division.
+    if hunting && state.bits[0] == 0 {
+        return pass_over(state, counts);
+    }
+    let read = table::read(&state.bits);
+    if hunting && read.refusal != 0 {
+        pass_over(state, counts);
     } else {
         take(state, read, counts);
     }
 }
 
-/// The block, if it is good.
-#[inline]
-pub fn good(bits: &[u8]) -> Option<Block> {
-    Some(table::read(bits)).filter(|block| block.refusal == 0)
+fn pass_over(state: &mut State, counts: &mut Counts) {
+    state.bits.copy_within(1.., 0);
+    state.bits[BLOCK - 1] = 0;
+    state.waiting -= 1;
+    counts.passed += 1;
 }
 
 /// Takes in a block that was used up and left nothing waiting. While hunting it
 /// is a good one.
-pub fn take(state: &mut State, read: Option<Block>, counts: &mut Counts) {
-    count(read.is_some(), counts);
-    *state = Standing::of(state).after(read).with_bytes(0, [0; BLOCK]);
+pub fn take(state: &mut State, read: Block, counts: &mut Counts) {
+    let good = count_read(read, counts);
+    *state = Standing::of(state).after(good).with_bytes(0, [0; BLOCK]);
 }

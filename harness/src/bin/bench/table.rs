@@ -3,7 +3,7 @@
 
 use harness::face::Block;
 use harness::independent::{check_word, BLOCK};
-use harness::refusals::{NOT_A_BIT, OUT_OF_RANGE, WRONG_CHECK_WORD, WRONG_LENGTH, WRONG_PREFIX};
+use harness::refusals::{NOT_A_BIT, OUT_OF_RANGE, WRONG_LENGTH, WRONG_PREFIX};
 
 use crate::bits::{number_of, spread};
 
@@ -40,8 +40,9 @@ pub fn read(bits: &[u8]) -> Block {
         register = step(register, byte);
         word = word << 8 | u32::from(byte);
     }
-    if register != number_of(&bits[37..]) {
-        return Block::refused(WRONG_CHECK_WORD);
+    let left = register ^ number_of(&bits[37..]);
+    if left != 0 {
+        return Block::leaving(left);
     }
     Block::taken(code, word)
 }

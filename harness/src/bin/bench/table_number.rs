@@ -2,7 +2,7 @@
 
 use harness::face::{Block, Packed};
 use harness::independent::PREFIX;
-use harness::refusals::{NUMBER_TOO_WIDE, OUT_OF_RANGE, WRONG_CHECK_WORD, WRONG_PREFIX};
+use harness::refusals::{NUMBER_TOO_WIDE, OUT_OF_RANGE, WRONG_PREFIX};
 
 use crate::table::step;
 
@@ -11,7 +11,7 @@ fn check_word(code: u8, word: u32) -> u16 {
     word.to_be_bytes().into_iter().fold(step(0, code), step)
 }
 
-pub fn read(block: u64) -> Block {
+pub extern "C" fn read(block: u64) -> Block {
     if block >= PREFIX * 2 {
         return Block::refused(NUMBER_TOO_WIDE);
     }
@@ -19,8 +19,9 @@ pub fn read(block: u64) -> Block {
         return Block::refused(WRONG_PREFIX);
     }
     let (code, word) = ((block >> 45 & 15) as u8, (block >> 13) as u32);
-    if check_word(code, word) != block as u16 & 0x1FFF {
-        return Block::refused(WRONG_CHECK_WORD);
+    let left = check_word(code, word) ^ block as u16 & 0x1FFF;
+    if left != 0 {
+        return Block::leaving(left);
     }
     Block::taken(code, word)
 }
