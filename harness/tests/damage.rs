@@ -1,8 +1,12 @@
 //! Demand 3 against the library: which damage is never taken for a block, and
-//! that the limits are exactly these.
+//! that the limits are exactly these. What is refused tells the remainder of the
+//! changes alone, whatever block they befell.
+
+use std::collections::BTreeSet;
 
 use harness::changes;
 use harness::compare::reading;
+use harness::face::Block;
 use harness::independent::{bits_of, block, remainder, BLOCK, PREFIX};
 use harness::random::{report, Random};
 use harness::refusals::{WRONG_CHECK_WORD, WRONG_PREFIX};
@@ -16,11 +20,25 @@ fn good_blocks(name: &str, count: usize) -> Vec<u64> {
     blocks
 }
 
-/// The changed block must be refused, with 3 where the prefix changed, else 4.
+/// What a good block tells whose places are so changed: nothing where the prefix
+/// is among them, else the remainder of the changes alone.
+fn told(change: u64) -> u16 {
+    if change & PREFIX == 0 {
+        remainder(change) as u16
+    } else {
+        0
+    }
+}
+
+/// The changed block must be refused, with 3 where the prefix changed, else with
+/// 4 and the remainder of the changes.
 fn must_be_refused(good: u64, change: u64) {
-    let expected = if change & PREFIX != 0 { WRONG_PREFIX } else { WRONG_CHECK_WORD };
-    let refusal = reading(&bits_of(good ^ change)).refusal;
-    assert_eq!(refusal, expected, "block {good:#o} changed by {change:#o}");
+    let expected = match change & PREFIX {
+        0 => Block::leaving(told(change)),
+        _ => Block::refused(WRONG_PREFIX),
+    };
+    let answer = reading(&bits_of(good ^ change));
+    assert_eq!(answer, expected, "block {good:#o} changed by {change:#o}");
 }
 
 /// Every one of the changes of each block must be refused.
@@ -70,6 +88,21 @@ fn a_million_odd_changes() {
     report("odd changes", COUNT);
 }
 
+#[test]
+fn what_a_remainder_says_of_the_changes() {
+    let left = |change: u64| reading(&bits_of(PREFIX ^ change)).remainder;
+    let single: BTreeSet<u16> = (0..BLOCK - 1).map(|place| left(1 << place)).collect();
+    assert_eq!(single.len(), 49, "one changed place is told from every other");
+    for change in changes::of_one_to_three_places().filter(|change| change & PREFIX == 0) {
+        let told = left(change);
+        // The generator has an even number of ones, so division keeps odd and even apart.
+        assert_eq!(told.count_ones() % 2, change.count_ones() % 2, "change {change:#o}");
+        if change.count_ones() == 2 {
+            assert!(!single.contains(&told), "change {change:#o}");
+        }
+    }
+}
+
 /// Counts the changes, and those of them that divide evenly. The library must
 /// take a block changed by one of these, unless the prefix changed too.
 fn counted(changes: impl Iterator<Item = u64>) -> (usize, usize) {
@@ -77,8 +110,10 @@ fn counted(changes: impl Iterator<Item = u64>) -> (usize, usize) {
     let (mut all, mut even) = (0, 0);
     for change in changes {
         let divides = remainder(change) == 0;
-        let taken = reading(&bits_of(good ^ change)).refusal == 0;
+        let answer = reading(&bits_of(good ^ change));
+        let taken = answer.refusal == 0;
         assert_eq!(taken, divides && change & PREFIX == 0, "change {change:#o}");
+        assert_eq!(answer.remainder, told(change), "change {change:#o}");
         all += 1;
         even += usize::from(divides);
     }

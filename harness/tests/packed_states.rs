@@ -8,7 +8,7 @@ use harness::compare::{improper_packed, Receiver};
 use harness::face::{self, PackedState, Record, CANDIDATE, LOCKED, TRYING};
 use harness::independent::packed::LARGEST;
 use harness::independent::packed_state::{is_proper, packed, unpacked};
-use harness::independent::BLOCK;
+use harness::independent::{bits_of, remainder, BLOCK, PREFIX};
 use harness::random::{report, Random};
 
 /// 1 January 1986, 12:34.
@@ -98,6 +98,22 @@ fn a_million_random_numbers_to_wait() {
     }
     assert!((COUNT / 3..COUNT / 3 * 2).contains(&proper), "{proper} proper");
     report("packed states with random numbers", COUNT);
+}
+
+#[test]
+fn the_waiting_bits_have_their_part_in_the_remainder() {
+    // A block with one changed place, cut in two anywhere: the first part waits.
+    for place in 0..49 {
+        let damaged = PREFIX ^ 1 << place;
+        for waiting in 0..50 {
+            let bits = damaged & all_ones(waiting);
+            let state = PackedState { mode: LOCKED, waiting, bits, ..PackedState::default() };
+            let mut receiver = Receiver::going_on_from(unpacked(&state).expect("fifty bits"));
+            let counts = receiver.run(&bits_of(damaged)[waiting.into()..]);
+            let told = remainder(1 << place) as u16;
+            assert_eq!((counts.bad, counts.remainder), (1, told), "place {place}, {waiting} wait");
+        }
+    }
 }
 
 /// Whatever lies between the fields, the library takes the state as it is.

@@ -7,6 +7,7 @@ use harness::feeds::{bits_of_all, time_block, troubled, Sender, MINUTE, MISHAPS}
 use harness::independent::receiver::RUN;
 use harness::independent::{bits_of, block, calendar, BLOCK, PREFIX};
 use harness::random::{report, Random};
+use harness::refusals::NOT_A_BIT;
 use harness::slips;
 
 /// 31 December 1986, 23:58.
@@ -51,6 +52,9 @@ fn run_in_pieces(receiver: &mut Receiver, feed: &[u8], random: &mut Random) -> C
         all.bad += counts.bad;
         all.passed += counts.passed;
         all.waiting = counts.waiting;
+        if counts.remainder != 0 {
+            all.remainder = counts.remainder;
+        }
         left = rest;
     }
     let used = BLOCK as u32 * (all.good + all.bad) + all.passed + all.waiting;
@@ -88,6 +92,86 @@ fn lock_comes_with_three_good_blocks_and_goes_with_four_bad_ones() {
     let interrupted = [[damaged()].repeat(3), vec![filler()]].concat().repeat(5);
     let receiver = after(&[[filler()].repeat(3), interrupted].concat());
     assert_eq!((receiver.state().mode, receiver.state().bad), (LOCKED, 0));
+}
+
+/// The filler with a prefix 0, which tells no remainder.
+fn without_prefix() -> u64 {
+    filler() ^ PREFIX ^ 0b1000
+}
+
+/// What a run of these blocks counts in a receiver that three fillers locked.
+fn counts_when_locked(blocks: &[u64]) -> Counts {
+    after(&[filler(); 3]).run(&bits_of_all(blocks))
+}
+
+#[test]
+fn a_run_tells_the_last_remainder() {
+    // A changed bit of the check word leaves itself.
+    let [one, four] = [filler() ^ 1, filler() ^ 4];
+    for (blocks, bad, remainder) in [
+        (vec![], 0, 0),
+        (vec![filler(); 5], 0, 0),
+        (vec![one], 1, 1),
+        (vec![filler(), one, filler()], 1, 1),
+        (vec![one, filler(), four], 2, 4),
+        (vec![four, one], 2, 1),
+        (vec![without_prefix()], 1, 0),
+        // A bad block that tells none does not clear what was told.
+        (vec![one, without_prefix()], 2, 1),
+        (vec![without_prefix(), one, without_prefix(), filler()], 3, 1),
+        // The block that loses the lock tells, and what is passed over behind it
+        // changes nothing.
+        (vec![one, one, one, four], 4, 4),
+        (vec![one, one, four, without_prefix(), one, one], 4, 4),
+        // Behind the loss a new search begins, and its bad block tells.
+        (vec![one, one, one, one, filler(), four], 5, 4),
+        (vec![one, one, one, one, filler(), without_prefix()], 5, 1),
+    ] {
+        let counts = counts_when_locked(&blocks);
+        assert_eq!((counts.bad, counts.remainder), (bad, remainder), "{blocks:x?}");
+    }
+}
+
+#[test]
+fn a_bad_block_tells_when_trying_and_a_window_passed_over_does_not() {
+    for (blocks, bad, remainder) in [
+        (vec![damaged()], 0, 0),
+        (vec![damaged(); 4], 0, 0),
+        (vec![filler(), damaged()], 1, 1),
+        (vec![filler(), filler(), damaged()], 1, 1),
+        (vec![filler(), without_prefix()], 1, 0),
+        (vec![damaged(), filler(), without_prefix()], 1, 0),
+    ] {
+        let counts = Receiver::fresh().run(&bits_of_all(&blocks));
+        assert_eq!((counts.bad, counts.remainder), (bad, remainder), "{blocks:x?}");
+    }
+}
+
+#[test]
+fn a_remainder_belongs_to_the_call_that_used_the_block_up() {
+    let bits = bits_of(damaged());
+    let mut receiver = after(&[filler(); 3]);
+    for (place, &bit) in bits.iter().enumerate() {
+        let counts = receiver.feed(bit);
+        assert_eq!((counts.bad, counts.remainder), if place == 49 { (1, 1) } else { (0, 0) });
+    }
+    assert_eq!(receiver.run(&bits_of(filler())).remainder, 0);
+    assert_eq!(receiver.run(&bits[..49]).remainder, 0);
+    assert_eq!(receiver.run(&bits[49..]).remainder, 1);
+    assert_eq!(receiver.run(&[]).remainder, 0);
+}
+
+#[test]
+fn a_run_refused_with_1_tells_of_the_bits_before() {
+    let bits = bits_of_all(&[damaged(), filler(), filler() ^ 4]);
+    for place in 0..=bits.len() {
+        let mut heard = bits[..place].to_vec();
+        heard.extend([2, 1, 1]);
+        let counts = after(&[filler(); 3]).run(&heard);
+        let remainder = [0, 1, 1, 4][place / BLOCK];
+        assert_eq!((counts.refusal, counts.remainder), (NOT_A_BIT, remainder), "{place} bits");
+    }
+    assert_eq!(after(&[filler(), damaged()]).feed(2).remainder, 0);
 }
 
 #[test]
@@ -222,6 +306,7 @@ fn random_bits() {
     let counts = run_in_pieces(&mut receiver, &random.bits(COUNT), &mut Random::named("pieces"));
     // About one window in 16,384 is good.
     assert!((COUNT as u32 / 20_000..COUNT as u32 / 14_000).contains(&counts.good), "{counts:?}");
+    assert!((1..=8191).contains(&counts.remainder), "{counts:?}");
     report("random bits", COUNT);
 }
 
