@@ -25,7 +25,7 @@ pub record Layouts : Type 0 where
   pub packs : (s held : List ℕ) (n : ℕ) → length held ≡ 50 → packOf s ≡ packing.Number n → (n < 2 ^ 50) × (unpackedOf held n ≡ s)
   pub unpacks : (held : List ℕ) (n : ℕ) → length held ≡ 50 → n < 2 ^ 50 → packOf (unpackedOf held n) ≡ packing.Number n
   pub refuses : (s : List ℕ) (why : Refusal) → packOf s ≡ packing.Refused why → readOf s ≡ reading.Refused why 0
-  -- reading the number of a slice is reading the slice
+  -- reading the number of a slice is reading the slice; an answer has the remainder that it tells in it
   pub read : (s : List ℕ) (n : ℕ) → packOf s ≡ packing.Number n → readPacked n ≡ readOf s
   -- writing the number is writing fifty places and packing them, or it is refused alike
   pub write : (held : List ℕ) (code word : ℕ) → length held ≡ 50 → writeOf 50 code ≡ writing.Whole
