@@ -34,8 +34,8 @@ module _ (s : List ℕ) where
     behind : remainder (inverted s) ≡ remainder (drop 1 s)
     behind = without s (eqb-true (prefixIn s) 1 p)
 
-    thirteen : remainder (inverted s) < 8192
-    thirteen = rw behind (rem-lt (drop 1 s) 0 (omega arith) (bits-drop 1 s (are-bits s a)))
+    left-lt : remainder (inverted s) < 8192
+    left-lt = rw behind (rem-lt (drop 1 s) 0 (omega arith) (bits-drop 1 s (are-bits s a)))
 
     some : eqb (value (checkIn s)) (checkOf (bodyIn s)) ≡ false → remainder (inverted s) ≡ 0 → ⊥
     some c z = eqb-false (value (checkIn s)) (checkOf (bodyIn s)) c (none-check s (eqb-true (length s) 50 l) (are-bits s a) (sym behind ∙ z))
@@ -53,7 +53,7 @@ module _ (s : List ℕ) where
       by false bits prefix check l a p c = (refl, omega arith)
       by true false prefix check l a p c = (refl, omega arith)
       by true true false check l a p c = (refl, omega arith)
-      by true true true false l a p c = (ne-eqb (remainder (inverted s)) 0 (some l a p c), thirteen l a p)
+      by true true true false l a p c = (ne-eqb (remainder (inverted s)) 0 (some l a p c), left-lt l a p)
       by true true true true l a p c = (refl, omega arith)
 
 pub packed-told-with-4 : (n : ℕ) → ToldWith4 (readPacked n)

@@ -17,7 +17,7 @@ abbrev pub isGood : Read → Bool
 isGood (Block code word) = true
 isGood (Refused why told) = false
 
--- good blocks, bad blocks, and the remainder that these tell
+-- how many blocks were good and how many bad, and the last remainder that a bad one told, 0 where none did
 abbrev pub blocksOf : ℕ → ℕ → ℕ → Blocks
 blocksOf good bad remainder = record { good = good; bad = bad; remainder = remainder }
 

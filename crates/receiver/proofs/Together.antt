@@ -72,7 +72,7 @@ from-append (x ∷ xs) ys blocks passed s h = rw (lt-ltb x 2 (h .0)) (from-appen
 onwards-counted : (ys : List ℕ) (r : Ran) → onwards ys r ≡ counted (blocksIn (r .counts)) (r .counts .passed) (runFrom ys noBlocks 0 (r .state))
 onwards-counted ys r = simp add-zero at (from-counted ys (blocksIn (r .counts)) (r .counts .passed) noBlocks 0 (r .state))
 
--- a run of bits is the step of the first and then the run of the others, with the counts of both
+-- a run of bits is the step of the first and then the run of the others, with what both count and tell
 pub from-next : (b : ℕ) (bs : List ℕ) (s : State) → b < 2
     → runFrom (b ∷ bs) noBlocks 0 s ≡ counted (stepOf s b .blocks) (stepOf s b .passed) (runFrom bs noBlocks 0 (stepOf s b .next))
 unfolding runFrom
@@ -96,7 +96,7 @@ module _ (s : State) (xs ys : List ℕ) (p : Proper s) (h : Bits xs) (limit : le
   both-are : runOf s (xs ++ ys) ≡ onwards ys (runOf s xs)
   both-are = run-is s (xs ++ ys) limit (p .proper) ∙ from-append xs ys noBlocks 0 s h ∙ ap (onwards ys) (sym first-is)
 
-  -- a run of two strings is the run of the first and then of the second, with the counts of both
+  -- a run of two strings is the run of the first and then of the second, with what both count and tell
   pub together : runOf s (xs ++ ys) ≡ counted (blocksIn (runOf s xs .counts)) (runOf s xs .counts .passed) (runOf (runOf s xs .state) ys)
   together =
       let q : Proper (runOf s xs .state) = run-proper s xs p in

@@ -2,17 +2,14 @@
 -- keeping the last one.
 -- Assumes nothing.
 use Prim.Native.Nat.{ℕ}
-use mathlib.Core.Bool.{Bool, true, false, cond, not, _&&_}
+use mathlib.Core.Bool.{Bool, true, false, cond, not}
 use mathlib.Core.List.{List, [], _∷_}
-use mathlib.Core.Option.{Option, none, some}
-use mathlib.Core.Path.{_≡_, refl}
-use borrow.Author.Tests.{eqb-true}
+use mathlib.Core.Option.{Option, none, some, Option·getD, orElse}
+use mathlib.Core.Path.{_≡_, refl, sym, subst}
+use borrow.Author.Tests.{eqb-true, ltb-true}
 use lib.Dec.{eqb, ltb}
-use Rattle.block.specs.declared.Read.{Read}
 use Rattle.block.specs.Read.{readOf, refusalIn, remainderRead}
 use Rattle.block.proofs.Told.{told-with-4}
-use Rattle.timekeeping.proofs.Choices.{cond-elim}
-use Rattle.locking.specs.declared.Blocks.{Blocks}
 use Rattle.locking.specs.declared.Judged.{Judged}
 use Rattle.locking.specs.Modes.{noBlocks}
 use Rattle.locking.proofs.Choices.{judged-elim}
@@ -20,11 +17,11 @@ use Rattle.receiver.specs.declared.Ran.{Ran}
 use Rattle.receiver.specs.declared.State.{State}
 use Rattle.receiver.specs.States.{lockIn}
 use Rattle.receiver.specs.Steps.{Step, stepOf}
-use Rattle.receiver.specs.Runs.{later, plus, runFrom}
+use Rattle.receiver.specs.Runs.{later, runFrom}
 use Rattle.receiver.specs.History.{bitsBefore}
-use Rattle.receiver.specs.Told.{toldWith, lastOf, lastTold, orZero, RunTells}
+use Rattle.receiver.specs.Told.{toldBy, toldWith, lastTold, RunTells}
 use Rattle.receiver.proofs.Choices.{filled, step-elim}
-use Rattle.receiver.proofs.Together.{run-is}
+use Rattle.receiver.proofs.Together.{from-next, run-is}
 
 -- 0 where nothing is told, and what is told is not 0
 abbrev Tells : Option ℕ → ℕ → Type 0
@@ -32,10 +29,6 @@ Tells none r = r ≡ 0
 Tells (some told) r = (r ≡ told) × (eqb told 0 ≡ false)
 
 -- ---- one bit
-
--- what a step with these blocks tells, where its window reads as w
-abbrev toldBy : Read → Blocks → Option ℕ
-toldBy w blocks = cond (eqb (blocks .bad) 1 && eqb (refusalIn w) 4) (some (remainderRead w)) none
 
 bad-tells : (w : List ℕ) → Tells (cond (eqb (refusalIn (readOf w)) 4) (some (remainderRead (readOf w))) none) (remainderRead (readOf w))
 bad-tells w = by (eqb (refusalIn (readOf w)) 4) (told-with-4 w .0)
@@ -53,36 +46,26 @@ step-tells s b =
 
 -- ---- one after the other
 
-both-tell : (o p : Option ℕ) (a b : ℕ) → Tells o a → Tells p b → Tells (lastOf o p) (later a b)
+both-tell : (o p : Option ℕ) (a b : ℕ) → Tells o a → Tells p b → Tells (orElse p o) (later a b)
+unfolding orElse
 both-tell o none a b x y = rw y x
 both-tell o (some told) a b x y = rw (y .0, y .1) (refl, refl)
 
-last-assoc : (o p q : Option ℕ) → lastOf (lastOf o p) q ≡ lastOf o (lastOf p q)
-last-assoc o p none = refl
-last-assoc o p (some r) = refl
-
-none-last : (o : Option ℕ) → lastOf none o ≡ o
-none-last none = refl
-none-last (some r) = refl
-
-from-tells : (bs : List ℕ) (blocks : Blocks) (passed : ℕ) (s : State) (o : Option ℕ) → Tells o (blocks .remainder)
-    → Tells (lastOf o (lastTold s (bitsBefore bs))) (runFrom bs blocks passed s .counts .remainder)
+from-tells : (bs : List ℕ) (s : State) → Tells (lastTold s (bitsBefore bs)) (runFrom bs noBlocks 0 s .counts .remainder)
 unfolding runFrom bitsBefore lastTold
-from-tells [] blocks passed s o x = x
-from-tells (b ∷ bs) blocks passed s o x =
-    let t : Step = stepOf s b in
-    let rest : Option ℕ = lastTold (t .next) (bitsBefore bs) in
-    cond-elim (λ (r : Ran). Tells (lastOf o (lastTold s (bitsBefore (b ∷ bs)))) (r .counts .remainder)) (ltb b 2)
-    (λ e.
-    rw (e, ← last-assoc o (toldWith s b) rest)
-    (from-tells bs (plus blocks (t .blocks)) _ (t .next) (lastOf o (toldWith s b)) (both-tell o (toldWith s b) _ _ x (step-tells s b))))
-    (λ e. rw e x)
+from-tells [] s = refl
+from-tells (b ∷ bs) s = by (ltb b 2) refl (from-tells bs (stepOf s b .next))
+  where
+    by : (bit : Bool) → ltb b 2 ≡ bit → Tells (lastTold (stepOf s b .next) (bitsBefore bs)) (runFrom bs noBlocks 0 (stepOf s b .next) .counts .remainder)
+        → Tells (lastTold s (bitsBefore (b ∷ bs))) (runFrom (b ∷ bs) noBlocks 0 s .counts .remainder)
+    by true e on =
+        subst (λ (r : Ran). Tells (lastTold s (bitsBefore (b ∷ bs))) (r .counts .remainder)) (sym (from-next b bs s (ltb-true b 2 e)))
+        (rw e (both-tell (toldWith s b) (lastTold (stepOf s b .next) (bitsBefore bs)) _ _ (step-tells s b) on))
+    by false e on = rw e refl
 
-tells-or-zero : (o : Option ℕ) (r : ℕ) → Tells o r → r ≡ orZero o
+tells-or-zero : (o : Option ℕ) (r : ℕ) → Tells o r → r ≡ Option·getD o 0
 tells-or-zero none r x = x
 tells-or-zero (some told) r x = x .0
 
 pub run-tells : RunTells
-run-tells s bs p h =
-    let last : Option ℕ = lastTold s (bitsBefore bs) in
-    rw (run-is s bs h p, ← none-last last) (tells-or-zero (lastOf none last) _ (from-tells bs noBlocks 0 s none refl))
+run-tells s bs p h = rw (run-is s bs h p) (tells-or-zero (lastTold s (bitsBefore bs)) _ (from-tells bs s))

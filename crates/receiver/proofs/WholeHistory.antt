@@ -1,10 +1,10 @@
 -- Runs one after the other leave the state of the whole history that they fed, each step going on from the last.
 -- Assumes nothing.
-use Prim.Native.Nat.{ℕ, _≤_}
+use Prim.Native.Nat.{ℕ}
 use mathlib.Core.Path.{_≡_, refl, sym, ap, _∙_}
 use mathlib.Core.Bool.{true}
 use mathlib.Core.List.{List, [], _∷_, _++_}
-use borrow.Author.Tests.{ltb-true, lt-ltb, le-ltb}
+use borrow.Author.Tests.{ltb-true}
 use lib.Dec.{ltb}
 use lib.ListN.{length}
 use Rattle.block.specs.Bits.{Bits}
@@ -48,16 +48,6 @@ run-after : (s : State) (bs : List ℕ) → properOf s ≡ true → runOf s bs .
 unfolding runOf bitsFed afterFrom
 run-after s bs p =
     rw p (cond-elim (λ (r : Ran). r .state ≡ afterFrom s (bitsFed bs)) (ltb 65536 (length bs)) (λ e. rw e) (λ e. rw e (from-after bs noBlocks 0 s)))
-
--- a run of bits within the limit feeds them all
-all-before : (l : List ℕ) → Bits l → bitsBefore l ≡ l
-unfolding bitsBefore
-all-before [] h = refl
-all-before (b ∷ l) h = rw (lt-ltb b 2 (h .0), all-before l (h .1))
-
-pub run-fresh : (l : List ℕ) → Bits l → length l ≤ 65536 → runOf freshOf l .state ≡ after l
-unfolding bitsFed
-run-fresh l h limit = run-after freshOf l (fresh-proper .proper) ∙ rw (le-ltb 65536 (length l) limit, all-before l h)
 
 -- ---- all runs
 

@@ -20,7 +20,7 @@ use Rattle.receiver.specs.Steps.{Step, stepOf}
 abbrev pub later : ℕ → ℕ → ℕ
 later before after = cond (eqb after 0) before after
 
--- the blocks of two stretches, one after the other
+-- the blocks of two parts of a run, one after the other
 abbrev pub plus : Blocks → Blocks → Blocks
 plus a b = blocksOf (a .good + b .good) (a .bad + b .bad) (later (a .remainder) (b .remainder))
 

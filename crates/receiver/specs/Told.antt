@@ -4,38 +4,33 @@
 use Prim.Native.Nat.{ℕ, _≤_}
 use mathlib.Core.Bool.{true, cond, _&&_}
 use mathlib.Core.List.{List, [], _∷_}
-use mathlib.Core.Option.{Option, none, some}
+use mathlib.Core.Option.{Option, none, some, Option·getD, orElse}
 use mathlib.Core.Path.{_≡_}
 use lib.Dec.{eqb}
 use lib.ListN.{length, set}
 use Rattle.block.specs.declared.Read.{Read}
 use Rattle.block.specs.Read.{readOf, refusalIn, remainderRead}
+use Rattle.locking.specs.declared.Blocks.{Blocks}
 use Rattle.receiver.specs.declared.State.{State}
 use Rattle.receiver.specs.States.{properOf}
 use Rattle.receiver.specs.Steps.{stepOf}
 use Rattle.receiver.specs.Runs.{runOf}
 use Rattle.receiver.specs.History.{bitsBefore}
 
--- the remainder of the block that this bit ends, where it is judged a bad block and refused with 4
+-- the remainder of a window that reads so, where it counts as a bad block and is refused with 4
+abbrev pub toldBy : Read → Blocks → Option ℕ
+toldBy w blocks = cond (eqb (blocks .bad) 1 && eqb (refusalIn w) 4) (some (remainderRead w)) none
+
+-- that of the window which this bit fills, if it fills one
 abbrev pub toldWith : State → ℕ → Option ℕ
-toldWith s b =
-    let w : Read = readOf (set (s .bits) (s .waiting) b) in
-    cond (eqb (stepOf s b .blocks .bad) 1 && eqb (refusalIn w) 4) (some (remainderRead w)) none
+toldWith s b = toldBy (readOf (set (s .bits) (s .waiting) b)) (stepOf s b .blocks)
 
--- the last of two, where there is one
-abbrev pub lastOf : Option ℕ → Option ℕ → Option ℕ
-lastOf before none = before
-lastOf before (some r) = some r
-
--- the last of all the bits'
+-- the last of all the bits': that of the later ones, or else of the first
 unfoldable pub lastTold : State → List ℕ → Option ℕ
+unfolding orElse
 lastTold s [] = none
-lastTold s (b ∷ bs) = lastOf (toldWith s b) (lastTold (stepOf s b .next) bs)
+lastTold s (b ∷ bs) = orElse (lastTold (stepOf s b .next) bs) (toldWith s b)
 
-abbrev pub orZero : Option ℕ → ℕ
-orZero none = 0
-orZero (some r) = r
-
--- a run that is not refused with 9 or 10, of the bits that it fed
+-- a run that is not refused with 9 or 10 tells it of the bits that it fed, or 0 where there is none
 abbrev pub RunTells : Type 0
-RunTells = (s : State) (bs : List ℕ) → properOf s ≡ true → length bs ≤ 65536 → runOf s bs .counts .remainder ≡ orZero (lastTold s (bitsBefore bs))
+RunTells = (s : State) (bs : List ℕ) → properOf s ≡ true → length bs ≤ 65536 → runOf s bs .counts .remainder ≡ Option·getD (lastTold s (bitsBefore bs)) 0
