@@ -10,4 +10,5 @@ pub mod RoundTrip
 pub mod Weekdays
 pub mod WeekFiftyFour
 pub mod Stepping
+pub mod MinutesLater
 pub mod Determined
