@@ -1,13 +1,16 @@
--- The statement: the run of a time block, twenty-nine others and the block of the next minute, part by part, and the dates by the
--- calendar's ways there and back.
+-- The statement: the run of a time block, some others and the block of minutes later, part by part, and the dates by the calendar's
+-- ways there and back.
 -- Assumes nothing.
 use Prim.Native.Nat.{ℕ, _+_, _*_, _≤_, _<_}
+use native.Mathlib.Nat.{zero-add}
 use native.Mathlib.Omega.{arith}
 use mathlib.Core.Path.{_≡_, sym, ap, _∙_}
-use mathlib.Core.List.{List, [], _∷_, _++_, append-nil}
+use mathlib.Core.Bool.{true}
+use mathlib.Core.List.{List, [], _∷_, _++_, append-nil, flatten}
+use borrow.Author.Tests.{ne-eqb, le-leb}
 use lib.ListN.{length, length-append}
-use Rattle.block.specs.Block.{blockOf}
-use Rattle.block.proofs.RoundTrip.{written-good}
+use Rattle.block.specs.Read.{readOf}
+use Rattle.block.proofs.RoundTrip.{written-good, read-back}
 use Rattle.record.specs.declared.Record.{Record}
 use Rattle.record.specs.declared.Recorded.the-variants.{Given}
 use Rattle.record.specs.Fields.{wordOf}
@@ -15,69 +18,104 @@ use Rattle.calendar.specs.declared.Date.{Date}
 use Rattle.calendar.specs.declared.Dated.the-variants as dated
 use Rattle.calendar.specs.Years.{span}
 use Rattle.calendar.specs.Dates.{dateOf}
-use Rattle.calendar.specs.NextMinute.{nextMinuteOf, nextOfDate}
-use Rattle.calendar.proofs.Answers.{Usable}
+use Rattle.calendar.specs.MinutesLater.{minutesLater, minutesLaterOfDate}
+use Rattle.calendar.proofs.Answers.{Usable, usable-is}
 use Rattle.calendar.proofs.RoundTrip.{date-back}
-use Rattle.calendar.proofs.Stepping.{next-of-date}
-use Rattle.timekeeping.specs.Times.{candidate, confirmed}
-use Rattle.locking.specs.Modes.{blocksOf}
+use Rattle.timekeeping.specs.Proper.{timeProper}
+use Rattle.timekeeping.specs.Times.{none, candidate, confirmed}
+use Rattle.locking.specs.declared.Blocks.{Blocks}
+use Rattle.locking.specs.Locks.{lockProper}
+use Rattle.locking.specs.Modes.{blocksOf, noBlocks}
 use Rattle.receiver.specs.declared.State.{State}
-use Rattle.receiver.specs.Runs.{ended, runFrom, runOf}
+use Rattle.receiver.specs.States.{bitsProper, properOf}
+use Rattle.receiver.specs.Runs.{plus, ended, runFrom, runOf}
+use Rattle.receiver.proofs.Adding.{none-plus, plus-none, plus-assoc}
 use Rattle.receiver.proofs.Together.{run-is}
-use Rattle.detection.specs.Slips.{Message, sent}
-use Rattle.journey.specs.Journey.{timeBlock, Others, Idle, holding, Writable, EveryJourney}
-use Rattle.journey.proofs.Worded.{date-usable, next-usable, year-on, has-word}
-use Rattle.journey.proofs.Minute.{first-block, other-blocks, last-block}
+use Rattle.journey.specs.Journey.{timeBlock, Other, Each, badRunAfter, LockHolds, countRead, countBlocks, Quiet, Missed, heard, Idle, holding, Leads, Writable, EveryJourney}
+use Rattle.journey.proofs.Worded.{date-usable, later-usable, years-on, later-recorded, has-word, word-fits}
+use Rattle.journey.proofs.Minutes.{first-block, other-blocks, last-block}
+use Rattle.journey.proofs.Missed.{others-append, heard-others, heard-length, missed-hold}
 
-length-block : (code word : ℕ) → length (blockOf code word) ≡ 50
-length-block code word = written-good code word .size
+-- ---- lengths and counts
 
-length-sent : (ms : List Message) → length (sent ms) ≡ 50 * length ms
-length-sent [] = omega arith
-length-sent (m ∷ ms) = length-append (blockOf (m .code) (m .word)) (sent ms) ∙ omega (arith, length-block (m .code) (m .word), length-sent ms)
+length-block : (r : Record) → length (timeBlock r) ≡ 50
+length-block r = written-good 0 (wordOf r) .size
 
-module _ (s : State) (d : Date) (r : Record) (first : ℕ) (i : Idle s) (w : Writable d r first) where
-  usable : Usable r
-  usable = date-usable d r (w .is-recorded)
+length-flat : (ws rest : List (List ℕ)) → Each Other ws → length (flatten (ws ++ rest)) ≡ 50 * length ws + length (flatten rest)
+unfolding flatten
+length-flat [] rest o = omega arith
+length-flat (w ∷ ws) rest o = length-append w (flatten (ws ++ rest)) ∙ omega (arith, o .0 .size, length-flat ws rest (o .1))
 
-  begins : (rest : List ℕ) → length rest ≤ 1500 → runOf s (timeBlock r ++ rest) ≡ runFrom rest (blocksOf 1 0 0) 0 (holding candidate r 0)
-  begins rest h =
-      run-is s (timeBlock r ++ rest) (omega (arith, length-append (timeBlock r) rest, length-block 0 (wordOf r))) (i .proper)
-      ∙ first-block rest r s usable i
+count-append : (ws vs : List (List ℕ)) → countBlocks (ws ++ vs) ≡ plus (countBlocks ws) (countBlocks vs)
+count-append [] vs = sym (none-plus (countBlocks vs))
+count-append (w ∷ ws) vs =
+    ap (plus (countRead (readOf w))) (count-append ws vs) ∙ sym (plus-assoc (countRead (readOf w)) (countBlocks ws) (countBlocks vs))
 
-  arrives : runOf s (timeBlock r) ≡ ended 0 (blocksOf 1 0 0) 0 (holding candidate r 0)
-  unfolding runFrom
-  arrives = ap (runOf s) (sym (append-nil (timeBlock r))) ∙ begins [] (omega arith)
+-- ---- the runs
 
-  module _ (n : Record) (e : nextMinuteOf r ≡ Given n) where
-    next : Usable n
-    next = next-usable r n usable e
+arrives : (s : State) (r : Record) → Idle s → Usable r → runOf s (timeBlock r) ≡ ended 0 (blocksOf 1 0 0) 0 (holding 0 candidate r 0)
+arrives s r i u =
+    run-is s (timeBlock r) (omega (arith, length-block r)) (i .proper) ∙ first-block r s u i
+    ∙ rw (read-back 0 (wordOf r) (omega arith) (word-fits r u))
 
-    confirms : (ms : List Message) → length ms ≡ 29 → Others ms → runOf s (timeBlock r ++ (sent ms ++ timeBlock n)) ≡ ended 0 (blocksOf 31 0 0) 0 (holding confirmed n 0)
-    unfolding runFrom
-    confirms ms l o =
-        let all : length (sent ms ++ timeBlock n) ≡ 1500 =
-        length-append (sent ms) (timeBlock n) ∙ omega (arith, length-sent ms, length-block 0 (wordOf n)) in
-        begins (sent ms ++ timeBlock n) (omega arith) ∙ other-blocks (timeBlock n) ms r 1 0 o (omega arith)
-        ∙ ap (λ (k : ℕ). runFrom (timeBlock n) (blocksOf (1 + k) 0 0) 0 (holding candidate r (0 + k))) l
-        ∙ ap (λ (l : List ℕ). runFrom l (blocksOf 30 0 0) 0 (holding candidate r 29)) (sym (append-nil (timeBlock n)))
-        ∙ last-block [] r n next e
+module _ (kind : ℕ) (held : candidate ≤ kind) (known : kind ≤ confirmed) (r : Record) (u : Usable r) where
+  begun : properOf (holding 0 kind r 0) ≡ true
+  unfolding properOf bitsProper lockProper timeProper
+  begun = rw (ne-eqb kind none (λ z. omega arith), le-leb kind confirmed known, usable-is r u)
 
-    dates-on : nextOfDate d .year < first + span → dateOf n first ≡ dated.Given (nextOfDate d)
-    dates-on h =
-        date-back (nextOfDate d) n first (sym (next-of-date d r (w .is-recorded) (omega (arith, w .to-last))) ∙ e) (w .from-first) (w .to-last)
-        (omega (arith, w .begun, year-on d .0)) h
+  -- others fed at age 0, and what follows them
+  on : (others rest : List (List ℕ)) → Each Other others → LockHolds 0 others → length others < 120 → length (flatten rest) ≤ 50
+      → runOf (holding 0 kind r 0) (flatten (others ++ rest))
+      ≡ runFrom (flatten rest) (countBlocks others) 0 (holding (badRunAfter 0 others) kind r (length others))
+  on others rest o l few h =
+      run-is (holding 0 kind r 0) (flatten (others ++ rest)) (omega (arith, length-flat others rest o)) begun
+      ∙ other-blocks kind held r others rest noBlocks 0 0 o l (omega arith) ∙ rw (none-plus (countBlocks others), zero-add (length others))
+
+  lasts : (others : List (List ℕ)) → length others < 120 → Each Other others → LockHolds 0 others
+      → Leads (holding 0 kind r 0) others (holding (badRunAfter 0 others) kind r (length others))
+  unfolding flatten runFrom
+  lasts others few o l = ap (λ (ws : List (List ℕ)). runOf (holding 0 kind r 0) (flatten ws)) (sym (append-nil others)) ∙ on others [] o l few (omega arith)
+
+  module _ (minutes : ℕ) (from : 1 ≤ minutes) (to : minutes ≤ 4) (n : Record) (e : minutesLater minutes r ≡ Given n) where
+    confirms : (others : List (List ℕ)) → length others + 1 ≡ 30 * minutes → Each Other others → LockHolds 0 others
+        → Leads (holding 0 kind r 0) (others ++ timeBlock n ∷ []) (holding 0 confirmed n 0)
+    unfolding flatten
+    confirms others whole o l =
+        let last : List (List ℕ) = timeBlock n ∷ [] in
+        let one = countRead (readOf (timeBlock n)) in
+        let all : plus (countBlocks others) one ≡ countBlocks (others ++ last) =
+        ap (plus (countBlocks others)) (sym (plus-none one)) ∙ sym (count-append others last) in
+        on others last o l (omega arith) (omega (arith, length-append (timeBlock n) [], length-block n))
+        ∙ last-block kind held r minutes (badRunAfter 0 others) (length others) n (countBlocks others) from to whole (later-usable minutes r n u e) e
+        ∙ ap (λ (b : Blocks). ended 0 b 0 (holding 0 confirmed n 0)) all
+
+    outlasts : (missed : List Missed) → length missed + 1 ≡ minutes → (before : List (List ℕ)) → Quiet before
+        → Leads (holding 0 kind r 0) ((heard missed ++ before) ++ timeBlock n ∷ []) (holding 0 confirmed n 0)
+    outlasts missed whole before q =
+        confirms (heard missed ++ before) (omega (arith, length-append (heard missed) before, heard-length missed, q .count))
+        (others-append (heard missed) before (heard-others missed) (q .others)) (missed-hold 0 missed before q)
+
+-- ---- the dates
+
+module _ (d : Date) (r : Record) (first : ℕ) (w : Writable d r first) (minutes : ℕ) (n : Record) (e : minutesLater minutes r ≡ Given n) where
+  dates-on : minutesLaterOfDate minutes d .year < first + span → dateOf n first ≡ dated.Given (minutesLaterOfDate minutes d)
+  dates-on h =
+      date-back (minutesLaterOfDate minutes d) n first (later-recorded minutes d r n (w .is-recorded) e (omega (arith, w .to-last)))
+      (w .from-first) (w .to-last) (omega (arith, w .begun, years-on minutes d)) h
 
 pub journey : EveryJourney
 journey s d r first i w =
+    let u : Usable r = date-usable d r (w .is-recorded) in
     record {
-      has-word = has-word r (usable s d r first i w);
-      arrives = arrives s d r first i w;
+      has-word = has-word r u;
+      arrives = arrives s r i u;
       dates-back = date-back d r first (w .is-recorded) (w .from-first) (w .to-last) (w .begun) (w .within);
-      goes-on = λ n e.
+      lasts = λ kind held known. lasts kind held known r u;
+      goes-on = λ minutes from to n e.
           record {
-            has-word = has-word n (next s d r first i w n e);
-            confirms = confirms s d r first i w n e;
-            dates-on = dates-on s d r first i w n e;
+            has-word = has-word n (later-usable minutes r n u e);
+            confirms = λ kind held known. confirms kind held known r u minutes from to n e;
+            outlasts = λ kind held known. outlasts kind held known r u minutes from to n e;
+            dates-on = dates-on d r first w minutes n e;
           };
     }

@@ -1,15 +1,19 @@
 -- One statement over the crates: a date is written as a record, the record as a word, the word as a block, and the block is fed
--- bit by bit to a locked receiver, which holds the record; a minute later it is confirmed, and the date is one minute later
--- (01, "The calendar" and "Hunting, trying, locked").
+-- bit by bit to a locked receiver, which holds the record; one to four minutes later the block of that minute is confirmed,
+-- whatever was missed in between while lock held, and the date is that many minutes later (01, "The calendar" and "Hunting, trying,
+-- locked"; 02, No. 5).
 -- Assumes nothing.
-use Prim.Native.Nat.{ℕ, _+_, _≤_, _<_}
+use Prim.Native.Nat.{ℕ, _+_, _*_, _≤_, _<_}
 use mathlib.Core.Path.{_≡_}
 use mathlib.Core.Bool.{true, false}
-use mathlib.Core.List.{List, [], _∷_, _++_}
+use mathlib.Core.List.{List, [], _∷_, _++_, flatten}
 use lib.ListN.{length}
-use Rattle.block.specs.Block.{blockOf}
+use Rattle.block.specs.Bits.{Bits, xors}
+use Rattle.block.specs.Block.{Good, blockOf}
 use Rattle.block.specs.Read.{readOf}
-use Rattle.detection.specs.Slips.{Message, sent}
+use Rattle.block.specs.declared.Read.{Read}
+use Rattle.block.specs.declared.Read.the-variants.{Block, Refused}
+use Rattle.detection.specs.Damage.{Pattern, Damage}
 use Rattle.record.specs.declared.Record.{Record}
 use Rattle.record.specs.declared.Recorded.the-variants as recorded
 use Rattle.record.specs.declared.Worded.the-variants as worded
@@ -19,14 +23,15 @@ use Rattle.calendar.specs.declared.Date.{Date}
 use Rattle.calendar.specs.declared.Dated.the-variants as dated
 use Rattle.calendar.specs.Years.{firstYear, lastFirstYear, span}
 use Rattle.calendar.specs.Dates.{dateOf, recordOf}
-use Rattle.calendar.specs.NextMinute.{nextMinuteOf, nextOfDate}
+use Rattle.calendar.specs.MinutesLater.{minutesLater, minutesLaterOfDate}
 use Rattle.timekeeping.specs.Proper.{isGiven}
 use Rattle.timekeeping.specs.Times.{none, candidate, confirmed, timeOf, usableIn}
+use Rattle.locking.specs.declared.Blocks.{Blocks}
 use Rattle.locking.specs.Locks.{locked, lockOf}
-use Rattle.locking.specs.Modes.{blocksOf}
+use Rattle.locking.specs.Modes.{isGood, blocksOf, noBlocks}
 use Rattle.receiver.specs.declared.State.{State}
 use Rattle.receiver.specs.States.{nothingWaits, properOf}
-use Rattle.receiver.specs.Runs.{ended, runOf}
+use Rattle.receiver.specs.Runs.{plus, ended, runOf}
 
 -- ---- what is sent
 
@@ -34,14 +39,63 @@ use Rattle.receiver.specs.Runs.{ended, runOf}
 abbrev pub timeBlock : Record → List ℕ
 timeBlock r = blockOf 0 (wordOf r)
 
--- a good block that is no usable time block: no record is taken from it
-abbrev pub Other : Message → Type 0
-Other m = isGiven (usableIn (readOf (blockOf (m .code) (m .word)))) ≡ false
+-- a block that is no usable time block, good or bad: no record is taken from it
+pub record Other (w : List ℕ) : Type 0 where
+  pub size : length w ≡ 50
+  pub bits : Bits w
+  pub unusable : isGiven (usableIn (readOf w)) ≡ false
 
--- each of some messages is such a one
-abbrev pub Others : List Message → Type 0
-Others [] = Unit {0}
-Others (m ∷ ms) = Other m × Others ms
+-- each of some blocks is such a one
+abbrev pub Each : (List ℕ → Type 0) → List (List ℕ) → Type 0
+Each P [] = Unit {0}
+Each P (w ∷ ws) = P w × Each P ws
+
+-- the run of bad blocks after one more block, and after some
+abbrev pub badRun : ℕ → Read → ℕ
+badRun bad (Block code word) = 0
+badRun bad (Refused why told) = bad + 1
+
+abbrev pub badRunAfter : ℕ → List (List ℕ) → ℕ
+badRunAfter bad [] = bad
+badRunAfter bad (w ∷ ws) = badRunAfter (badRun bad (readOf w)) ws
+
+-- lock holds over some blocks that come after a run of so many bad ones: no four bad ones stand in a row
+abbrev pub LockHolds : ℕ → List (List ℕ) → Type 0
+LockHolds bad [] = Unit {0}
+LockHolds bad (w ∷ ws) = (badRun bad (readOf w) < 4) × LockHolds (badRun bad (readOf w)) ws
+
+-- what blocks count, each by what it reads as
+abbrev pub countRead : Read → Blocks
+countRead (Block code word) = blocksOf 1 0 0
+countRead (Refused why told) = blocksOf 0 1 told
+
+abbrev pub countBlocks : List (List ℕ) → Blocks
+countBlocks [] = noBlocks
+countBlocks (w ∷ ws) = plus (countRead (readOf w)) (countBlocks ws)
+
+-- ---- missed minutes
+
+-- the blocks of a minute before its time block: twenty-nine good ones, none of them a usable time block
+pub record Quiet (ws : List (List ℕ)) : Type 0 where
+  pub count : length ws ≡ 29
+  pub others : Each Other ws
+  pub good : Each (λ w. isGood (readOf w) ≡ true) ws
+
+-- a missed minute: in the place of its time block stands something that is none, good or bad
+pub record Missed : Type 0 where
+  pub before : List (List ℕ)
+  pub quiet : Quiet before
+  pub block : List ℕ
+  pub other : Other block
+
+-- the blocks of missed minutes
+abbrev pub heard : List Missed → List (List ℕ)
+heard [] = []
+heard (m ∷ ms) = m .before ++ (m .block ∷ heard ms)
+
+-- a block with any of the damage that demand 3 speaks of is missed
+abbrev pub DamagedIsOther : Type 0
+DamagedIsOther = (s e : List ℕ) → Good s → Pattern e → Damage e → Other (xors s e)
 
 -- ---- the receiver before and after
 
@@ -53,9 +107,14 @@ pub record Idle (s : State) : Type 0 where
   pub nothing-waits : s .waiting ≡ 0
   pub no-time : s .time ≡ none
 
--- a locked receiver with nothing waiting and no bad blocks, that holds a record at an age in blocks, as a candidate or confirmed
-abbrev pub holding : ℕ → Record → ℕ → State
-holding kind r age = nothingWaits (lockOf locked 0 0 (timeOf kind r age))
+-- a locked receiver with nothing waiting and a run of so many bad blocks, that holds a record at an age in blocks, as a candidate or
+-- confirmed
+abbrev pub holding : ℕ → ℕ → Record → ℕ → State
+holding bad kind r age = nothingWaits (lockOf locked 0 bad (timeOf kind r age))
+
+-- some blocks are one run, which counts every one of them and leads to this state
+abbrev pub Leads : State → List (List ℕ) → State → Type 0
+Leads s blocks t = runOf s (flatten blocks) ≡ ended 0 (countBlocks blocks) 0 t
 
 -- ---- the statement
 
@@ -67,29 +126,53 @@ pub record Writable (d : Date) (r : Record) (first : ℕ) : Type 0 where
   pub begun : first ≤ d .year
   pub within : d .year < first + span
 
--- the minute after the record r of the date d, where n is its record
-pub record NextMinute (s : State) (d : Date) (r : Record) (first : ℕ) (n : Record) : Type 0 where
+-- so many minutes after the record r of the date d, where n is the record then
+pub record MinutesOn (d : Date) (r : Record) (first minutes : ℕ) (n : Record) : Type 0 where
   -- the record has a word
   pub has-word : writtenOf n ≡ worded.Given (wordOf n)
-  -- the first time block, any twenty-nine others, and the block of the next minute are one run of 1,550 bits: it counts
-  -- thirty-one good blocks, and the new record is confirmed and held at age 0
+  -- its block, thirty blocks a minute after that of r, leaves n confirmed at age 0, whatever the others were while lock held, and
+  -- whether r was a candidate or confirmed
   pub confirms :
-      (others : List Message) →
-      length others ≡ 29 →
-      Others others →
-      runOf s (timeBlock r ++ (sent others ++ timeBlock n)) ≡ ended 0 (blocksOf 31 0 0) 0 (holding confirmed n 0)
-  -- the held record's date is one minute later, where that minute is still in the 28 years, which end with 2099 at the latest
-  pub dates-on : nextOfDate d .year < first + span → dateOf n first ≡ dated.Given (nextOfDate d)
+      (kind : ℕ) →
+      candidate ≤ kind →
+      kind ≤ confirmed →
+      (others : List (List ℕ)) →
+      length others + 1 ≡ 30 * minutes →
+      Each Other others →
+      LockHolds 0 others →
+      Leads (holding 0 kind r 0) (others ++ timeBlock n ∷ []) (holding 0 confirmed n 0)
+  -- so it does where all minutes before it were missed: they do not end the lock
+  pub outlasts :
+      (kind : ℕ) →
+      candidate ≤ kind →
+      kind ≤ confirmed →
+      (missed : List Missed) →
+      length missed + 1 ≡ minutes →
+      (before : List (List ℕ)) →
+      Quiet before →
+      Leads (holding 0 kind r 0) ((heard missed ++ before) ++ timeBlock n ∷ []) (holding 0 confirmed n 0)
+  -- the held record's date is as many minutes later, where that minute is still in the 28 years, which end with 2099 at the latest
+  pub dates-on : minutesLaterOfDate minutes d .year < first + span → dateOf n first ≡ dated.Given (minutesLaterOfDate minutes d)
 
 pub record Journey (s : State) (d : Date) (r : Record) (first : ℕ) : Type 0 where
   -- the record has a word
   pub has-word : writtenOf r ≡ worded.Given (wordOf r)
   -- the fifty bits of its block count one good block and leave the record as a candidate at age 0
-  pub arrives : runOf s (timeBlock r) ≡ ended 0 (blocksOf 1 0 0) 0 (holding candidate r 0)
+  pub arrives : runOf s (timeBlock r) ≡ ended 0 (blocksOf 1 0 0) 0 (holding 0 candidate r 0)
   -- the held record dates back to the date
   pub dates-back : dateOf r first ≡ dated.Given d
-  -- and it goes on with the record of the next minute; there is none only at 23:59 before a day in week 54
-  pub goes-on : (n : Record) → nextMinuteOf r ≡ recorded.Given n → NextMinute s d r first n
+  -- as a candidate or confirmed it is held over up to 119 others, while lock holds
+  pub lasts :
+      (kind : ℕ) →
+      candidate ≤ kind →
+      kind ≤ confirmed →
+      (others : List (List ℕ)) →
+      length others < 120 →
+      Each Other others →
+      LockHolds 0 others →
+      Leads (holding 0 kind r 0) others (holding (badRunAfter 0 others) kind r (length others))
+  -- and it goes on for one to four minutes; there is no record then only where a day in week 54 begins in between
+  pub goes-on : (minutes : ℕ) → 1 ≤ minutes → minutes ≤ 4 → (n : Record) → minutesLater minutes r ≡ recorded.Given n → MinutesOn d r first minutes n
 
 -- for every date that can be written, every first year that holds it, and every receiver that is locked and idle
 abbrev pub EveryJourney : Type 0

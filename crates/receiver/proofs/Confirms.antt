@@ -1,7 +1,7 @@
--- The block of the next minute does confirm, where it ends thirty blocks after the held one, and not one block sooner or later;
--- computed from the definitions.
+-- A block does confirm one minute later thirty blocks after the held one, and two minutes later after sixty; not one block sooner
+-- or later, and not one minute later after sixty; computed from the definitions.
 -- Assumes nothing.
-use Prim.Native.Nat.{ℕ, zero, suc}
+use Prim.Native.Nat.{ℕ, zero, suc, _+_, _*_}
 use mathlib.Core.Path.{_≡_, refl}
 use mathlib.Core.List.{List, [], _++_}
 use Rattle.block.specs.Bits.{valueFrom}
@@ -14,7 +14,8 @@ use Rattle.record.specs.Words as words
 use Rattle.calendar.specs.Days.{dayOfYear, dayInYear}
 use Rattle.calendar.specs.Dates.{usableOf}
 use Rattle.calendar.specs.NextMinute.{goOn, nextAfter, nextMinuteOf}
-use Rattle.timekeeping.specs.Times.{candidate, confirmed, usableIn, sameMinute, follows, renewedBy, agedBy, offeredTo}
+use Rattle.calendar.specs.MinutesLater.{minutesLater}
+use Rattle.timekeeping.specs.Times.{candidate, confirmed, usableIn, sameMinute, follows, confirms, renewedBy, agedBy, offeredTo}
 use Rattle.locking.specs.Modes.{hunted, tried, heldOn, judgedBy}
 use Rattle.receiver.specs.States.{freshOf}
 use Rattle.receiver.specs.Steps.{judgedStep, stepOf}
@@ -24,18 +25,20 @@ abbrev fillers : ℕ → List ℕ
 fillers zero = []
 fillers (suc n) = blockOf 0 2147483648 ++ fillers n
 
--- three blocks for lock, then 1 January 1986, 00:00, n other blocks, and 00:01
-abbrev minuteApart : ℕ → List ℕ
-minuteApart n = fillers 3 ++ (blockOf 0 1276510208 ++ (fillers n ++ blockOf 0 1276510272))
+-- the time after three blocks for lock, 1 January 1986, 00:00, n other blocks, and the block of so many minutes past
+abbrev timeAfter : ℕ → ℕ → ℕ
+timeAfter n minute = after (fillers 3 ++ (blockOf 0 1276510208 ++ (fillers n ++ blockOf 0 (1276510208 + 64 * minute)))) .time
 
-pub confirms :
-    (after (minuteApart 28) .time ≡ candidate)
-    × (after (minuteApart 29) .time ≡ confirmed)
-    × (after (minuteApart 30) .time ≡ candidate)
+pub confirming :
+    (timeAfter 28 1 ≡ candidate)
+    × (timeAfter 29 1 ≡ confirmed)
+    × (timeAfter 30 1 ≡ candidate)
+    × (timeAfter 59 1 ≡ candidate)
+    × (timeAfter 59 2 ≡ confirmed)
 unfolding valueFrom remainderFrom blockOf readOf
     offsetOf fieldsOf offsetInRange timeInRange kindInRange dayInRange inRange words.readOf
-    dayOfYear dayInYear usableOf goOn nextAfter nextMinuteOf
-    usableIn sameMinute follows renewedBy agedBy offeredTo
+    dayOfYear dayInYear usableOf goOn nextAfter nextMinuteOf minutesLater
+    usableIn sameMinute follows confirms renewedBy agedBy offeredTo
     hunted tried heldOn judgedBy
     freshOf judgedStep stepOf afterFrom
-confirms = (refl, refl, refl)
+confirming = (refl, refl, refl, refl, refl)

@@ -3,9 +3,8 @@
 use Prim.Native.Nat.{ℕ, _+_, _-_, _*_, _≤_, _<_}
 use native.Mathlib.Omega.{arith}
 use mathlib.Core.Path.{_≡_, refl, sym, ap, _∙_}
-use mathlib.Core.Bool.{true, _&&_, and-eq-true-iff}
 use mathlib.Core.List.{List, []}
-use borrow.Author.Tests.{eqb-true, eqb-false}
+use borrow.Author.Tests.{eqb-false}
 use lib.Dec.{eqb, leb}
 use lib.ListN.{length}
 use Rattle.block.specs.Read.{readOf}
@@ -13,8 +12,9 @@ use Rattle.record.specs.declared.Record.{Record}
 use Rattle.record.specs.declared.Recorded.{Recorded}
 use Rattle.record.specs.declared.Recorded.the-variants.{Given, Refused}
 use Rattle.timekeeping.specs.declared.Time.{Time}
-use Rattle.timekeeping.specs.Times.{none, candidate, confirmed, timeOf, noTime, usableIn, follows, renewedBy, agedBy, offeredTo}
+use Rattle.timekeeping.specs.Times.{none, candidate, confirmed, timeOf, noTime, usableIn, confirms, renewedBy, agedBy, offeredTo}
 use Rattle.timekeeping.proofs.Choices.{cond-elim}
+use Rattle.timekeeping.proofs.WholeMinutes.{AfterMinutes, confirms-exactly}
 use Rattle.locking.specs.declared.Judged.{Judged}
 use Rattle.locking.specs.declared.Lock.{Lock}
 use Rattle.locking.specs.Locks.{locked, lockOf}
@@ -62,10 +62,13 @@ module _ (l : List ℕ) (b : ℕ) (s : State) (v : Evidence l s) where
         let k = v .earned (sym kind ∙ c) in
         record {
           n = k .n;
+          minutes = k .minutes;
+          from-one = k .from-one;
+          to-four = k .to-four;
           earlier = k .earlier;
           block = block-more l b (k .block);
           from = from-more (k .from);
-          next = rw same (k .next);
+          later = rw same (k .later);
           unbroken = locked-more l b (k .unbroken) (now (λ e. omega arith));
         }
 
@@ -80,7 +83,7 @@ module _ (l : List ℕ) (b : ℕ) (s : State) (v : Evidence l s) where
 
     -- a time begins with the block's record, confirmed only where the block was the right one
     module _ (k : ℕ) (r : Record) (block : TimeBlock (l ▹ b) (length (l ▹ b)) r)
-        (earns : k ≡ confirmed → (s .time ≡ none → ⊥) × (s .age + 1 ≡ 30) × (follows (s .held) r ≡ true)) where
+        (earns : k ≡ confirmed → (s .time ≡ none → ⊥) × AfterMinutes (s .age + 1) (s .held) r) where
       from-now : {n : ℕ} → length (l ▹ b) ≡ n → HeldFrom (l ▹ b) (lockedWith bad (timeOf k r 0)) n
       from-now e = record { block = rw e at block; aged = omega arith; room = omega arith }
 
@@ -88,12 +91,16 @@ module _ (l : List ℕ) (b : ℕ) (s : State) (v : Evidence l s) where
       earned-now c =
           let e = earns c in
           let h = v .held (e .0) in
+          let m = e .1 in
           record {
             n = h .n;
+            minutes = m .minutes;
+            from-one = m .from;
+            to-four = m .to;
             earlier = s .held;
             block = block-more l b (h .from .block);
-            from = from-now (omega (arith, length-more l b, h .from .aged, e .1));
-            next = e .2;
+            from = from-now (omega (arith, length-more l b, h .from .aged, m .whole));
+            later = m .later;
             unbroken = locked-more l b (h .unbroken) now;
           }
 
@@ -111,10 +118,8 @@ module _ (l : List ℕ) (b : ℕ) (s : State) (v : Evidence l s) where
         let new : Offered (timeOf candidate r 0) = begun candidate r block (λ c. absurd (omega arith)) in
         cond-elim (λ (k : ℕ). Offered (timeOf k r 0)) (eqb (s .time) none) (λ _. new)
         (λ held.
-        cond-elim (λ (k : ℕ). Offered (timeOf k r 0)) (eqb (s .age + 1) 30 && follows (s .held) r)
-        (λ e.
-        let c = and-eq-true-iff (eqb (s .age + 1) 30) _ .0 e in
-        begun confirmed r block (λ _. (eqb-false (s .time) none held, eqb-true (s .age + 1) 30 (c .0), c .1)))
+        cond-elim (λ (k : ℕ). Offered (timeOf k r 0)) (confirms (s .age + 1) (s .held) r)
+        (λ e. begun confirmed r block (λ _. (eqb-false (s .time) none held, confirms-exactly (s .age + 1) (s .held) r .0 e)))
         (λ _. new))
 
     older : Offered (agedBy (lockIn s .time))
@@ -122,7 +127,7 @@ module _ (l : List ℕ) (b : ℕ) (s : State) (v : Evidence l s) where
     older =
         let nothing : Offered noTime = no-evidence _ _ refl in
         cond-elim Offered (eqb (s .time) none) (λ _. nothing)
-        (λ _. cond-elim Offered (leb 30 (s .age + 1)) (λ _. nothing) (λ _. kept _ refl refl (omega arith) (omega arith) (λ _. now)))
+        (λ _. cond-elim Offered (leb 120 (s .age + 1)) (λ _. nothing) (λ _. kept _ refl refl (omega arith) (omega arith) (λ _. now)))
 
     offered : (u : Recorded) → ((r : Record) → u ≡ Given r → TimeBlock (l ▹ b) (length (l ▹ b)) r) → Offered (offeredTo (lockIn s .time) u)
     unfolding offeredTo

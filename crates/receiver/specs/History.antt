@@ -112,13 +112,16 @@ pub record Held (history : List ℕ) (s : State) : Type 0 where
   pub from : HeldFrom history s n
   pub unbroken : LockedSince history (n - 50)
 
--- an earned time: a usable time block ended after n bits, and the block of the held record exactly 1,500 bits later; the held
--- record is the next minute of the earlier one, the offset aside; and lock was there when the earlier block began, and was not
--- lost since
+-- an earned time: for one to four minutes, a usable time block ended after n bits, and the block of the held record as many times
+-- 1,500 bits later; the held record is that many minutes after the earlier one, the offset aside; and lock was there when the
+-- earlier block began, and was not lost since (02, No. 5)
 pub record Earned (history : List ℕ) (s : State) : Type 0 where
   pub n : ℕ
+  pub minutes : ℕ
+  pub from-one : 1 ≤ minutes
+  pub to-four : minutes ≤ 4
   pub earlier : Record
   pub block : TimeBlock history n earlier
-  pub from : HeldFrom history s (n + 1500)
-  pub next : follows earlier (s .held) ≡ true
+  pub from : HeldFrom history s (n + 1500 * minutes)
+  pub later : follows minutes earlier (s .held) ≡ true
   pub unbroken : LockedSince history (n - 50)

@@ -1,4 +1,5 @@
 pub mod Choices
+pub mod WholeMinutes
 pub mod StaysProper
 pub mod NoTime
 pub mod Determined

@@ -1,8 +1,8 @@
--- A proper time stays proper, whatever block is offered: it holds what was read as usable, at an age below 30.
+-- A proper time stays proper, whatever block is offered: it holds what was read as usable, at an age below 120.
 -- Assumes nothing.
 use Prim.Native.Nat.{ℕ, _+_}
 use mathlib.Core.Path.{_≡_, refl, ap}
-use mathlib.Core.Bool.{true, false, _&&_, and-eq-true-iff}
+use mathlib.Core.Bool.{true, false, and-eq-true-iff}
 use borrow.Author.Tests.{lt-ltb, leb-false}
 use lib.Dec.{eqb, leb, ltb}
 use Rattle.block.specs.declared.Read.{Read}
@@ -15,7 +15,7 @@ use Rattle.record.proofs.Tests.{not-given}
 use Rattle.calendar.specs.Dates.{usableOf}
 use Rattle.calendar.proofs.Answers.{usable-given}
 use Rattle.timekeeping.specs.declared.Time.{Time}
-use Rattle.timekeeping.specs.Times.{none, confirmed, timeOf, thenUsable, usableIn, follows, renewedBy, agedBy, offeredTo}
+use Rattle.timekeeping.specs.Times.{none, confirmed, timeOf, thenUsable, usableIn, confirms, renewedBy, agedBy, offeredTo}
 use Rattle.timekeeping.specs.Proper.{isZeroRecord, isNoTime, isGiven, timeProper}
 use Rattle.timekeeping.proofs.Choices.{cond-elim}
 
@@ -29,12 +29,12 @@ usable-in (read.Block code word) r e = go (words.readOf code word) e
     go (Refused why) e = absurd (not-given why r e)
 usable-in (read.Refused why told) r e = absurd (not-given why r e)
 
-older : (t : Time) → timeProper t ≡ true → eqb (t .kind) none ≡ false → leb 30 (t .age + 1) ≡ false → timeProper (timeOf (t .kind) (t .held) (t .age + 1)) ≡ true
+older : (t : Time) → timeProper t ≡ true → eqb (t .kind) none ≡ false → leb 120 (t .age + 1) ≡ false → timeProper (timeOf (t .kind) (t .held) (t .age + 1)) ≡ true
 unfolding timeProper
 older t e held young =
     let p = and-eq-true-iff (leb (t .kind) confirmed) _ .0 (rw held at e) in
-    let q = and-eq-true-iff (ltb (t .age) 30) _ .0 (p .1) in
-    rw (held, p .0, lt-ltb (t .age + 1) 30 (leb-false 30 (t .age + 1) young)) (q .1)
+    let q = and-eq-true-iff (ltb (t .age) 120) _ .0 (p .1) in
+    rw (held, p .0, lt-ltb (t .age + 1) 120 (leb-false 120 (t .age + 1) young)) (q .1)
 
 -- what an offered block leaves is proper
 pub time-offered : (t : Time) (u : Recorded) → ((r : Record) → u ≡ Given r → usableOf r ≡ Given r) → timeProper t ≡ true → timeProper (offeredTo t u) ≡ true
@@ -42,7 +42,7 @@ unfolding timeProper renewedBy agedBy offeredTo isNoTime isZeroRecord
 time-offered t (Given r) usable e =
     let g : isGiven (usableOf r) ≡ true = ap isGiven (usable r refl) in
     let P : ℕ → Type 0 = λ k. timeProper (timeOf k r 0) ≡ true in
-    cond-elim P (eqb (t .kind) none) (λ _. g) (λ _. cond-elim P (eqb (t .age + 1) 30 && follows (t .held) r) (λ _. g) (λ _. g))
+    cond-elim P (eqb (t .kind) none) (λ _. g) (λ _. cond-elim P (confirms (t .age + 1) (t .held) r) (λ _. g) (λ _. g))
 time-offered t (Refused why) usable e =
     cond-elim (λ (t : Time). timeProper t ≡ true) (eqb (t .kind) none) (λ _. refl)
-    (λ held. cond-elim (λ (t : Time). timeProper t ≡ true) (leb 30 (t .age + 1)) (λ _. refl) (older t e held))
+    (λ held. cond-elim (λ (t : Time). timeProper t ≡ true) (leb 120 (t .age + 1)) (λ _. refl) (older t e held))

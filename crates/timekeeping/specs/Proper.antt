@@ -1,4 +1,5 @@
--- When a time is proper: it is none, or holds a usable record at an age of 0 to 29 (01, "Hunting, trying, locked").
+-- When a time is proper: it is none, or holds a usable record at an age of 0 to 119 (01, "Hunting, trying, locked"; 02,
+-- No. 5).
 -- Assumes nothing.
 use mathlib.Core.Bool.{Bool, true, false, cond, _&&_}
 use lib.Dec.{eqb, leb, ltb}
@@ -26,6 +27,6 @@ abbrev pub isGiven : Recorded → Bool
 isGiven (Given r) = true
 isGiven (Refused why) = false
 
--- time is none, or holds a usable record at an age of 0 to 29
+-- time is none, or holds a usable record at an age of 0 to 119
 unfoldable pub timeProper : Time → Bool
-timeProper t = cond (eqb (t .kind) none) (isNoTime t) (leb (t .kind) confirmed && (ltb (t .age) 30 && isGiven (usableOf (t .held))))
+timeProper t = cond (eqb (t .kind) none) (isNoTime t) (leb (t .kind) confirmed && (ltb (t .age) 120 && isGiven (usableOf (t .held))))

@@ -1,6 +1,6 @@
--- The time: held, aged, confirmed and forgotten (01, "Hunting, trying, locked").
+-- The time: held, aged, confirmed and forgotten (01, "Hunting, trying, locked"; 02, No. 5).
 -- Assumes nothing.
-use Prim.Native.Nat.{ℕ, _+_}
+use Prim.Native.Nat.{ℕ, _+_, _/_, _%_}
 use mathlib.Core.Bool.{Bool, false, cond, _&&_}
 use lib.Dec.{eqb, leb}
 use Rattle.block.specs.declared.Read.{Read}
@@ -9,9 +9,10 @@ use Rattle.record.specs.declared.Record.{Record}
 use Rattle.record.specs.declared.Recorded.{Recorded}
 use Rattle.record.specs.declared.Recorded.the-variants.{Given, Refused}
 use Rattle.record.specs.Given.{zeroRecord}
+use Rattle.record.specs.Ranges.{within}
 use Rattle.record.specs.Words as words
 use Rattle.calendar.specs.Dates.{usableOf}
-use Rattle.calendar.specs.NextMinute.{nextMinuteOf}
+use Rattle.calendar.specs.MinutesLater.{minutesLater}
 use Rattle.timekeeping.specs.declared.Time.{Time}
 
 -- the numbers of the kinds of time
@@ -51,18 +52,22 @@ abbrev pub isMinute : Recorded → Record → Bool
 isMinute (Given n) r = sameMinute n r
 isMinute (Refused why) r = false
 
--- the record's minute is that of the held record's next minute; a held record without one is never followed
-unfoldable pub follows : Record → Record → Bool
-follows held r = isMinute (nextMinuteOf held) r
+-- the record's minute is so many minutes after the held record's, the offset aside; a minute that does not exist is never followed
+unfoldable pub follows : ℕ → Record → Record → Bool
+follows minutes held r = isMinute (minutesLater minutes held) r
 
--- A block is offered, and the age grows by 1. A usable block at age 30 that follows the held record confirms the time; any
--- other usable block makes a candidate, also with nothing held. Both hold the new record at age 0
+-- a minute is thirty blocks: at age 30, 60, 90 or 120 the record confirms the held one if it is 1, 2, 3 or 4 minutes later
+unfoldable pub confirms : ℕ → Record → Record → Bool
+confirms age held r = within 30 age 120 && (eqb (age % 30) 0 && follows (age / 30) held r)
+
+-- A block is offered, and the age grows by 1. A usable block makes the time confirmed where it confirms the held record, and a
+-- candidate otherwise, also with nothing held. Both hold the new record at age 0
 unfoldable pub renewedBy : Time → Record → Time
-renewedBy t r = timeOf (cond (eqb (t .kind) none) candidate (cond (eqb (t .age + 1) 30 && follows (t .held) r) confirmed candidate)) r 0
+renewedBy t r = timeOf (cond (eqb (t .kind) none) candidate (cond (confirms (t .age + 1) (t .held) r) confirmed candidate)) r 0
 
--- a block that is not usable lets the time go at age 30
+-- a block that is not usable lets the time go at age 120: three missed minutes are outlasted, a fourth is not
 unfoldable pub agedBy : Time → Time
-agedBy t = cond (eqb (t .kind) none) noTime (cond (leb 30 (t .age + 1)) noTime (timeOf (t .kind) (t .held) (t .age + 1)))
+agedBy t = cond (eqb (t .kind) none) noTime (cond (leb 120 (t .age + 1)) noTime (timeOf (t .kind) (t .held) (t .age + 1)))
 
 unfoldable pub offeredTo : Time → Recorded → Time
 offeredTo t (Given r) = renewedBy t r

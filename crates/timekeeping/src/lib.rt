@@ -1,8 +1,10 @@
 // The time: held, aged, confirmed and forgotten, block by block; and when it is proper.
 ghost use mathlib.Core.Path.{_≡_};
+ghost use Prim.Native.Nat.{_+_};
 ghost use Rattle.calendar.specs.Dates.{usableOf};
+ghost use Rattle.calendar.specs.MinutesLater.{thenNext, minutesLater};
 ghost use Rattle.timekeeping.specs.Proper.{isZeroRecord, isNoTime, isGiven, timeProper};
-ghost use Rattle.timekeeping.specs.Times.{timeOf, noTime, usableIn, sameMinute, follows, renewedBy, agedBy, offeredTo};
+ghost use Rattle.timekeeping.specs.Times.{timeOf, noTime, usableIn, sameMinute, follows, confirms, renewedBy, agedBy, offeredTo};
 use block::Read;
 use record::Record;
 use record::Recorded;
@@ -74,39 +76,77 @@ fn same_minute(n: Record, r: Record) -> bool
     n.leap == r.leap
 }
 
-// The record's minute is the held record's next.
-fn comes_next(held: Record, r: Record) -> bool
-    ensures { λ t. ⌜ t ≡ follows held r ⌝ }
+// The next minute of the record that was given; a refusal stays.
+fn then_next(given: Recorded) -> Recorded
+    ensures { λ r. ⌜ r ≡ thenNext given ⌝ }
 {
-    match calendar::next_minute(held) {
+    match given {
+        Recorded::Given(r) => calendar::next_minute(r),
+        Recorded::Refused(why) => Recorded::Refused(why),
+    }
+}
+
+// So many minutes later: the next minute taken that often.
+fn minutes_later(minutes: u8, held: Record) -> Recorded
+    ensures { λ r. ⌜ r ≡ minutesLater minutes held ⌝ }
+{
+    let mut later = Recorded::Given(held);
+    let mut taken: u8 = 0;
+    while taken < minutes {
+        later = then_next(later);
+        taken += 1;
+    }
+    later
+}
+
+// The record's minute is so many minutes after the held record's.
+fn comes_later(minutes: u8, held: Record, r: Record) -> bool
+    ensures { λ t. ⌜ t ≡ follows minutes held r ⌝ }
+{
+    match minutes_later(minutes, held) {
         Recorded::Given(n) => same_minute(n, r),
         Recorded::Refused(_) => false,
     }
 }
 
-// A usable record is offered: it confirms the held one a minute on, and is a candidate otherwise.
+// Offered one to four whole minutes after the held record, the record tells as many minutes more.
+fn confirms(age: u8, held: Record, r: Record) -> bool
+    ensures { λ t. ⌜ t ≡ confirms (age + 1) held r ⌝ }
+{
+    if 119 < age {
+        return false;
+    }
+    let offered = age + 1;
+    let minutes = offered / 30;
+    if offered % 30 == 0 {
+        comes_later(minutes, held, r)
+    } else {
+        false
+    }
+}
+
+// A usable record is offered: it is confirmed or a candidate, and its age is 0.
 fn renewed(time: Time, r: Record) -> Time
     ensures { λ t. ⌜ t ≡ renewedBy time r ⌝ }
 {
     if time.kind != 0 {
-        if time.age == 29 {
-            if comes_next(time.held, r) {
-                return time_of(2, r, 0);
-            }
+        if confirms(time.age, time.held, r) {
+            return time_of(2, r, 0);
         }
     }
     time_of(1, r, 0)
 }
 
-// A block that is not usable is offered: the held record grows older, up to a minute.
+// A block that is not usable is offered: the held record grows older, and is let go with the fourth missed minute.
 fn aged(time: Time) -> Time
     ensures { λ t. ⌜ t ≡ agedBy time ⌝ }
 {
-    if time.kind == 0 {
+    let kind = time.kind;
+    if kind == 0 {
         return no_time();
     }
-    if time.age < 29 {
-        time_of(time.kind, time.held, time.age + 1)
+    if time.age < 119 {
+        time_of(kind, time.held, time.age + 1)
     } else {
         no_time()
     }
@@ -167,7 +207,7 @@ pub fn is_proper(time: Time) -> bool
     if 2 < time.kind {
         return false;
     }
-    if time.age < 30 {
+    if time.age < 120 {
         is_usable(time.held)
     } else {
         false

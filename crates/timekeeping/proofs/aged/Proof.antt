@@ -1,4 +1,4 @@
--- `aged` meets its contract: nothing held, younger than a minute, and a minute old.
+-- `aged` meets its contract: nothing held, younger than the last age, and at it.
 -- Assumes nothing.
 use borrow.Author.Needs.{needs}
 use borrow.Author.Tests.{eq-eqb, ne-eqb, le-leb, lt-leb}
@@ -28,15 +28,15 @@ returns-2 : tie.Need-returns-2
 unfolding agedBy
 returns-2 c =
     let held = c .before .before .before .before in
-    let time = held .before .before .args .time in
-    rw (ne-eqb _ _ (held .if1 .left), lt-leb 30 (time .age + 1) (omega arith)) (c .time-of .ensures)
+    let time = held .before .args .time in
+    rw (ne-eqb _ _ (held .if1 .left), lt-leb 120 (time .age + 1) (omega arith)) (c .time-of .ensures)
 
 returns-3 : tie.Need-returns-3
 unfolding agedBy
 returns-3 c =
     let held = c .before .before .before in
-    let time = held .before .before .args .time in
-    rw (ne-eqb _ _ (held .if1 .left), le-leb 30 (time .age + 1) (omega arith)) (c .no-time2 .ensures)
+    let time = held .before .args .time in
+    rw (ne-eqb _ _ (held .if1 .left), le-leb 120 (time .age + 1) (omega arith)) (c .no-time2 .ensures)
 
 pub aged-spec : {M : Type 1} → statement M
 aged-spec =

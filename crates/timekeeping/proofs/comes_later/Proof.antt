@@ -1,12 +1,12 @@
--- `comes_next` meets its contract: the two cases of the next minute.
+-- `comes_later` meets its contract: the two cases of the minutes later.
 -- Assumes nothing.
 use borrow.Author.Needs.{needs}
 use Rattle.timekeeping.specs.Times.{follows}
-use Rattle.timekeeping.proofs.comes_next.Statement.{statement}
-use Rattle.timekeeping.proofs.comes_next.Tie as tie
+use Rattle.timekeeping.proofs.comes_later.Statement.{statement}
+use Rattle.timekeeping.proofs.comes_later.Tie as tie
 
-next-minute-requires : tie.Need-next-minute-requires
-next-minute-requires c κs = search needs
+minutes-later-requires : tie.Need-minutes-later-requires
+minutes-later-requires c κs = search needs
 
 enum-known-n : tie.Need-enum-known-n
 enum-known-n c = search needs
@@ -21,13 +21,13 @@ returns : tie.Need-returns
 unfolding follows
 returns c =
     let given = c .before .before in
-    rw (← given .before .before .next-minute .ensures, given .n .given .1) (c .same-minute .ensures)
+    rw (← given .before .before .minutes-later .ensures, given .n .given .1) (c .same-minute .ensures)
 
 returns-2 : tie.Need-returns-2
 unfolding follows
-returns-2 c = rw (← c .before .before .next-minute .ensures, c .enum-told .given .1)
+returns-2 c = rw (← c .before .before .minutes-later .ensures, c .enum-told .given .1)
 
-pub comes-next-spec : {M : Type 1} → statement M
-comes-next-spec =
+pub comes-later-spec : {M : Type 1} → statement M
+comes-later-spec =
     tie.close
-    (tie.spec next-minute-requires enum-known-n same-minute-requires enum-told returns returns-2)
+    (tie.spec minutes-later-requires enum-known-n same-minute-requires enum-told returns returns-2)

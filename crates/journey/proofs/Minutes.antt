@@ -1,0 +1,109 @@
+-- The blocks of some minutes: a usable time block makes a candidate, each other block ages what is held by one, and the block of as
+-- many minutes later as went by confirms.
+-- Assumes nothing.
+use Prim.Native.Nat.{ℕ, _+_, _*_, _<_, _≤_}
+use native.Mathlib.Nat.{add-zero}
+use native.Mathlib.Omega.{arith}
+use mathlib.Core.Path.{_≡_, refl, sym, ap, _∙_}
+use mathlib.Core.Bool.{true, false}
+use mathlib.Core.List.{List, [], _∷_, _++_, append-nil, flatten}
+use borrow.Author.Tests.{eq-eqb, ne-eqb, lt-leb}
+use lib.Dec.{eqb}
+use lib.ListN.{length}
+use Rattle.block.specs.Bits.{zeros}
+use Rattle.block.specs.Block.{Good}
+use Rattle.block.specs.Read.{readOf}
+use Rattle.block.proofs.RoundTrip.{written-good, read-back}
+use Rattle.record.specs.declared.Record.{Record}
+use Rattle.record.specs.declared.Recorded.{Recorded}
+use Rattle.record.specs.declared.Recorded.the-variants.{Given, Refused}
+use Rattle.record.specs.Fields.{wordOf}
+use Rattle.calendar.specs.MinutesLater.{minutesLater}
+use Rattle.calendar.proofs.Answers.{Usable}
+use Rattle.timekeeping.specs.declared.Time.{Time}
+use Rattle.timekeeping.specs.Proper.{isGiven}
+use Rattle.timekeeping.specs.Times.{none, candidate, confirmed, timeOf, usableIn, sameMinute, follows, renewedBy, agedBy, offeredTo}
+use Rattle.timekeeping.proofs.WholeMinutes.{confirms-exactly}
+use Rattle.locking.specs.declared.Blocks.{Blocks}
+use Rattle.locking.specs.declared.Lock.{Lock}
+use Rattle.locking.specs.Locks.{locked, lockOf}
+use Rattle.locking.specs.Modes.{noBlocks}
+use Rattle.receiver.specs.declared.State.{State}
+use Rattle.receiver.specs.States.{stateOf, lockIn, nothingWaits}
+use Rattle.receiver.specs.Runs.{plus, ended, runFrom}
+use Rattle.receiver.proofs.Adding.{none-plus, plus-none, plus-assoc}
+use Rattle.journey.specs.Journey.{timeBlock, Other, Each, badRun, badRunAfter, LockHolds, countRead, countBlocks, Idle, holding}
+use Rattle.journey.proofs.Worded.{word-fits, block-usable}
+use Rattle.journey.proofs.Fed.{feeds}
+
+-- ---- what a block does to the time
+
+from-none : (t : Time) (r : Record) → t .kind ≡ none → offeredTo t (Given r) ≡ timeOf candidate r 0
+unfolding offeredTo renewedBy
+from-none t r e = rw e
+
+ages : (kind : ℕ) (r : Record) (age : ℕ) (u : Recorded) → candidate ≤ kind → isGiven u ≡ false → age + 1 < 120
+    → offeredTo (timeOf kind r age) u ≡ timeOf kind r (age + 1)
+unfolding offeredTo agedBy
+ages kind r age (Given n) held e h = cc
+ages kind r age (Refused why) held e h = rw (ne-eqb kind none (λ z. omega arith), lt-leb 120 (age + 1) h)
+
+same : (n : ℕ) → eqb n n ≡ true
+same n = eq-eqb n n refl
+
+is-later : (minutes : ℕ) (r n : Record) → minutesLater minutes r ≡ Given n → follows minutes r n ≡ true
+unfolding follows sameMinute
+is-later minutes r n e = rw e (simp same)
+
+later-confirms : (minutes kind age : ℕ) (r n : Record) → 1 ≤ minutes → minutes ≤ 4 → candidate ≤ kind → age + 1 ≡ 30 * minutes
+    → minutesLater minutes r ≡ Given n → offeredTo (timeOf kind r age) (Given n) ≡ timeOf confirmed n 0
+unfolding offeredTo renewedBy
+later-confirms minutes kind age r n from to held whole e =
+    rw (
+      ne-eqb kind none (λ z. omega arith),
+      confirms-exactly (age + 1) r n .1 (record { minutes = minutes; from = from; to = to; whole = whole; later = is-later minutes r n e }),
+    )
+
+-- ---- a time block
+
+-- it is good, and its record is offered
+time-feeds : (r : Record) (bits rest : List ℕ) (blocks : Blocks) (l : Lock) → Usable r → length bits ≡ 50 → l .mode ≡ locked
+    → runFrom (timeBlock r ++ rest) blocks 0 (stateOf l 0 bits)
+    ≡ runFrom rest (plus blocks (countRead (readOf (timeBlock r)))) 0 (nothingWaits (lockOf locked 0 0 (offeredTo (l .time) (Given r))))
+time-feeds r bits rest blocks l u places m =
+    let w : List ℕ = timeBlock r in
+    let g : Good w = written-good 0 (wordOf r) in
+    let ends : badRun (l .bad) (readOf w) ≡ 0 = rw (read-back 0 (wordOf r) (omega arith) (word-fits r u)) in
+    feeds w bits rest blocks l (g .size) (g .bits) places m (omega arith) ∙ rw (ends, block-usable r u)
+
+-- ---- the run
+
+-- the first time block, fed to an idle receiver, is a candidate
+pub first-block : (r : Record) (s : State) → Usable r → Idle s → runFrom (timeBlock r) noBlocks 0 s ≡ ended 0 (countRead (readOf (timeBlock r))) 0 (holding 0 candidate r 0)
+unfolding runFrom
+first-block r s u i =
+    ap (λ (l : List ℕ). runFrom l noBlocks 0 s) (sym (append-nil (timeBlock r)))
+    ∙ ap (λ (k : ℕ). runFrom (timeBlock r ++ []) noBlocks 0 (stateOf (lockIn s) k (s .bits))) (i .nothing-waits)
+    ∙ time-feeds r (s .bits) [] noBlocks (lockIn s) u (i .places) (i .is-locked)
+    ∙ rw (from-none (lockIn s .time) r (i .no-time)) (ap (λ (b : Blocks). ended 0 b 0 (holding 0 candidate r 0)) (none-plus (countRead (readOf (timeBlock r)))))
+
+module _ (kind : ℕ) (held : candidate ≤ kind) (r : Record) where
+  -- after others the record has grown older by as many blocks
+  pub other-blocks : (ws rest : List (List ℕ)) (blocks : Blocks) (bad age : ℕ) → Each Other ws → LockHolds bad ws → age + length ws < 120
+      → runFrom (flatten (ws ++ rest)) blocks 0 (holding bad kind r age)
+      ≡ runFrom (flatten rest) (plus blocks (countBlocks ws)) 0 (holding (badRunAfter bad ws) kind r (age + length ws))
+  unfolding flatten
+  other-blocks [] rest blocks bad age o l h = rw (plus-none blocks, add-zero age)
+  other-blocks (w ∷ ws) rest blocks bad age o l h =
+      let a : age + 1 + length ws ≡ age + length (w ∷ ws) = omega arith in
+      let one = countRead (readOf w) in
+      feeds w (zeros 50) (flatten (ws ++ rest)) blocks (lockOf locked 0 bad (timeOf kind r age)) (o .0 .size) (o .0 .bits) refl refl (l .0)
+      ∙ rw (ages kind r age (usableIn (readOf w)) held (o .0 .unusable) (omega arith), ← a, ← plus-assoc blocks one (countBlocks ws))
+      (other-blocks ws rest (plus blocks one) (badRun bad (readOf w)) (age + 1) (o .1) (l .1) (omega arith))
+
+  -- the block of as many minutes later as went by leaves its record confirmed
+  pub last-block : (minutes bad age : ℕ) (n : Record) (blocks : Blocks) → 1 ≤ minutes → minutes ≤ 4 → age + 1 ≡ 30 * minutes → Usable n → minutesLater minutes r ≡ Given n
+      → runFrom (flatten (timeBlock n ∷ [])) blocks 0 (holding bad kind r age) ≡ ended 0 (plus blocks (countRead (readOf (timeBlock n)))) 0 (holding 0 confirmed n 0)
+  unfolding flatten runFrom
+  last-block minutes bad age n blocks from to whole u e =
+      time-feeds n (zeros 50) [] blocks (lockOf locked 0 bad (timeOf kind r age)) u refl refl ∙ rw (later-confirms minutes kind age r n from to held whole e)
