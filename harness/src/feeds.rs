@@ -101,7 +101,7 @@ pub const MISHAPS: [Mishap; 12] = [
 
 impl Mishap {
     /// What is received where this block was sent.
-    fn befalling(self, sent: u64, random: &mut Random) -> Vec<u8> {
+    pub fn befalling(self, sent: u64, random: &mut Random) -> Vec<u8> {
         let mut bits = bits_of(sent).to_vec();
         let place = random.below(BLOCK);
         match self {

@@ -23,7 +23,7 @@ fn empty_states() -> [PackedState; 4] {
         hunting,
         PackedState { mode: TRYING, good: 1, ..hunting },
         locked,
-        PackedState { time: CANDIDATE, record: RECORD, age: 29, ..locked },
+        PackedState { time: CANDIDATE, record: RECORD, age: 119, ..locked },
     ]
 }
 

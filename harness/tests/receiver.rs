@@ -28,8 +28,19 @@ fn minute(record: Record) -> Vec<u64> {
     Sender(record).minute(&mut Random::named("a minute")).to_vec()
 }
 
-fn next(record: Record) -> Record {
-    calendar::next_minute(record).expect("a next minute")
+/// What is told so many minutes later.
+fn later(record: Record, minutes: usize) -> Record {
+    calendar::minutes_later(record, minutes).expect("minutes to come")
+}
+
+/// Blocks after which a receiver holds `RECORD`, as a candidate or confirmed.
+fn blocks_to_hold(time: u8) -> Vec<u64> {
+    let before = Record { minute: RECORD.minute - 1, ..RECORD };
+    let first = if time == CONFIRMED { minute(before) } else { Vec::new() };
+    let blocks = [first, minute(RECORD)].concat();
+    let state = *after(&blocks).state();
+    assert_eq!((state.time, state.record, state.age), (time, RECORD, 0));
+    blocks
 }
 
 /// A receiver that was fed these blocks.
@@ -182,56 +193,71 @@ fn the_blocks_that_give_lock_are_not_offered() {
 }
 
 #[test]
-fn a_time_is_confirmed_a_minute_later_and_not_a_block_sooner_or_later() {
-    let start = minute(RECORD);
-    let minute = minute(next(RECORD));
-    let late = [vec![filler()], minute.clone()].concat();
-    for (blocks, time) in [(&minute[..], CONFIRMED), (&minute[1..], CANDIDATE), (&late, CANDIDATE)]
-    {
-        let receiver = after(&[&start, blocks].concat());
-        assert_eq!(receiver.state().time, time, "after {} blocks", blocks.len());
-        assert_eq!((receiver.state().record, receiver.state().age), (next(RECORD), 0));
+fn a_time_is_confirmed_one_to_four_minutes_later_and_not_a_block_sooner_or_later() {
+    for held in [CANDIDATE, CONFIRMED] {
+        let start = blocks_to_hold(held);
+        for (age, minutes) in (1..=150).flat_map(|age| (0..=5).map(move |minutes| (age, minutes))) {
+            let told = later(RECORD, minutes);
+            let missed = [filler()].repeat(age - 1);
+            let state = *after(&[&start[..], &missed, &[time_block(told)]].concat()).state();
+            let confirms = matches!((age, minutes), (30, 1) | (60, 2) | (90, 3) | (120, 4));
+            let time = if confirms { CONFIRMED } else { CANDIDATE };
+            assert_eq!(
+                (state.time, state.record, state.age),
+                (time, told, 0),
+                "{minutes} minutes later at age {age}, held {held}"
+            );
+        }
     }
 }
 
 #[test]
-fn another_offset_confirms_and_another_minute_does_not() {
-    let start = minute(RECORD);
-    for (told, time) in [
-        (Record { offset: 2, ..next(RECORD) }, CONFIRMED),
-        (Record { hour: 22, ..next(RECORD) }, CANDIDATE),
-        (RECORD, CANDIDATE),
-        (next(next(RECORD)), CANDIDATE),
-    ] {
-        assert_eq!(after(&[start.clone(), minute(told)].concat()).state().time, time);
+fn another_offset_confirms_and_another_time_does_not() {
+    let start = blocks_to_hold(CANDIDATE);
+    for minutes in 1..=4 {
+        let missed = [filler()].repeat((minutes - 1) * MINUTE);
+        let right = later(RECORD, minutes);
+        for (told, time) in [
+            (Record { offset: 2, ..right }, CONFIRMED),
+            (Record { offset: -32, ..right }, CONFIRMED),
+            (Record { offset: 31, ..right }, CONFIRMED),
+            (Record { hour: 22, ..right }, CANDIDATE),
+            (RECORD, CANDIDATE),
+            (later(RECORD, minutes - 1), CANDIDATE),
+            (later(RECORD, minutes + 1), CANDIDATE),
+        ] {
+            let state = *after(&[&start[..], &missed, &minute(told)].concat()).state();
+            assert_eq!((state.time, state.record), (time, told), "after {minutes} minutes");
+        }
     }
 }
 
 #[test]
 fn bad_blocks_age_the_time() {
-    let mut blocks = minute(RECORD);
-    let state = |blocks: &[u64]| *after(blocks).state();
-    for age in 1..=29 {
-        blocks.push(if age % 4 == 0 { filler() } else { damaged() });
-        let state = state(&blocks);
-        assert_eq!((state.time, state.age), (CANDIDATE, age));
+    for time in [CANDIDATE, CONFIRMED] {
+        let mut blocks = blocks_to_hold(time);
+        let state = |blocks: &[u64]| *after(blocks).state();
+        for age in 1..=119 {
+            blocks.push(if age % 4 == 0 { filler() } else { damaged() });
+            let state = state(&blocks);
+            assert_eq!((state.time, state.record, state.age), (time, RECORD, age));
+        }
+        blocks.push(filler());
+        assert_eq!((state(&blocks).mode, state(&blocks).time), (LOCKED, NO_TIME), "age 120");
     }
-    blocks.push(filler());
-    assert_eq!(state(&blocks).time, NO_TIME, "age 30");
 }
 
 #[test]
 fn a_lost_feed_leaves_no_proof_to_the_next() {
-    let (first, second, third) = (minute(RECORD), minute(next(RECORD)), next(next(RECORD)));
-    let mut lost = [first, second].concat();
-    assert_eq!(after(&lost).state().time, CONFIRMED);
-    lost.extend([damaged(); 4]);
+    let lost = [blocks_to_hold(CONFIRMED), vec![damaged(); 4]].concat();
     assert_eq!(*after(&lost).state(), harness::face::fresh());
     // The next time block comes when it would have confirmed.
-    lost.extend([filler(); MINUTE - 5]);
-    assert_eq!((after(&lost).state().mode, after(&lost).state().time), (LOCKED, NO_TIME));
-    lost.push(time_block(third));
-    assert_eq!(after(&lost).state().time, CANDIDATE);
+    for minutes in 1..=4 {
+        let mut blocks = [&lost[..], &[filler()].repeat(minutes * MINUTE - 5)].concat();
+        assert_eq!((after(&blocks).state().mode, after(&blocks).state().time), (LOCKED, NO_TIME));
+        blocks.push(time_block(later(RECORD, minutes)));
+        assert_eq!(after(&blocks).state().time, CANDIDATE, "after {minutes} minutes");
+    }
 }
 
 #[test]

@@ -6,13 +6,13 @@ use std::fmt::Debug;
 
 use harness::compare::{improper, Receiver};
 use harness::face::{
-    self, Counts, Record, State, CANDIDATE, CONFIRMED, HUNTING, LOCKED, NO_TIME, TRYING,
+    self, Counts, Date, Record, State, CANDIDATE, CONFIRMED, HUNTING, LOCKED, NO_TIME, TRYING,
 };
-use harness::feeds::{bits_of_all, time_block, troubled, unusable_time_block, MISHAPS};
+use harness::feeds::{bits_of_all, time_block, troubled, unusable_time_block, MINUTE, MISHAPS};
 use harness::fields;
 use harness::independent::packed_state::packed;
 use harness::independent::receiver::{is_proper, RUN};
-use harness::independent::{bits_of, block, calendar, BLOCK, PREFIX};
+use harness::independent::{bits_of, block, calendar, record, BLOCK, PREFIX};
 use harness::random::{report, Random};
 use harness::refusals::{NOT_A_BIT, RUN_TOO_LONG};
 
@@ -24,12 +24,12 @@ const RECORD: Record =
 const NO_DAY: Record = Record { week: 53, weekday: 7, ..RECORD };
 
 /// Records to hold: an ordinary one, the last minutes of a common and of a leap
-/// year, and one that has no next minute.
-fn records() -> [Record; 4] {
+/// year, one that has no next minute and one that has only two.
+fn records() -> [Record; 5] {
     let last_minute = Record { week: 53, hour: 23, minute: 59, ..RECORD };
     let leap = Record { leap: 0, start_day: 1, weekday: 2, ..last_minute };
     let before_week_54 = Record { leap: 0, start_day: 7, weekday: 7, ..last_minute };
-    [RECORD, last_minute, leap, before_week_54]
+    [RECORD, last_minute, leap, before_week_54, Record { minute: 57, ..before_week_54 }]
 }
 
 /// The state with the first `count` of these bits waiting.
@@ -66,7 +66,8 @@ fn proper_states() -> Vec<State> {
         locked(3, 0),
         holding(CANDIDATE, RECORD, 0, locked(0, 0)),
         holding(CANDIDATE, records()[3], 29, locked(3, 49)),
-        holding(CONFIRMED, records()[1], 13, locked(1, 20)),
+        holding(CONFIRMED, records()[1], 73, locked(1, 20)),
+        holding(CONFIRMED, records()[4], 119, locked(2, 49)),
     ]
 }
 
@@ -109,7 +110,7 @@ fn every_combination_of_the_parts_of_a_state() {
         for (good, bad) in (0..=4).flat_map(|good| (0..=5).map(move |bad| (good, bad))) {
             for (waiting, count) in [(0, 0), (1, 1), (49, 49), (50, 50), (51, 50), (255, 50)] {
                 for time in [NO_TIME, CANDIDATE, CONFIRMED, 3] {
-                    for age in [0, 1, 29, 30, 255] {
+                    for age in [0, 1, 29, 30, 59, 60, 89, 90, 118, 119, 120, 255] {
                         for record in [Record::default(), RECORD, out_of_range, NO_DAY] {
                             let state = State { mode, good, bad, ..hunting(count) };
                             let state = State { waiting, ..holding(time, record, age, state) };
@@ -121,8 +122,8 @@ fn every_combination_of_the_parts_of_a_state() {
         }
     }
     // Hunting, trying with 1 or 2, locked with 0 to 3, each with no time; and
-    // locked with either time at three ages. Three numbers waiting are proper.
-    assert_eq!(proper, (1 + 2 + 4 + 4 * 2 * 3) * 3);
+    // locked with either time at ten ages. Three numbers waiting are proper.
+    assert_eq!(proper, (1 + 2 + 4 + 4 * 2 * 10) * 3);
 }
 
 #[test]
@@ -138,14 +139,15 @@ fn places_beyond_those_waiting() {
     }
 }
 
-/// Blocks that may come to a receiver that holds this record: time blocks of
-/// the next minute, with at most one field changed, and others.
-fn blocks_to_come(record: Record, random: &mut Random) -> Vec<u64> {
+/// Blocks that may come to a receiver that holds this record: time blocks of up
+/// to five minutes later, of `minutes` later with one field changed, and others.
+fn blocks_to_come(record: Record, minutes: usize, random: &mut Random) -> Vec<u64> {
     let filler = block(0, 1 << 31);
-    let next = calendar::next_minute(record).unwrap_or(record);
-    let told = fields::one_changed(next.bytes()).map(Record::of_bytes);
+    let later = |minutes| calendar::minutes_later(record, minutes).unwrap_or(record);
+    let changed = fields::one_changed(later(minutes).bytes()).map(Record::of_bytes);
+    let told = (0..=5).map(later).chain(changed);
     let mut blocks: Vec<u64> = told.filter(calendar::usable).map(time_block).collect();
-    blocks.extend([record, random.usable_record(), NO_DAY].map(time_block));
+    blocks.extend([random.usable_record(), NO_DAY].map(time_block));
     blocks.extend([filler, filler ^ 1, filler ^ PREFIX, block(1, 0), random.block()]);
     blocks.extend([(); 5].map(|()| unusable_time_block(random)));
     blocks
@@ -156,11 +158,13 @@ fn every_block_to_a_locked_receiver() {
     let mut random = Random::named("steps");
     let mut count = 0;
     for record in records() {
-        let blocks = blocks_to_come(record, &mut random);
-        for (time, age) in (0..30).flat_map(|age| [(CANDIDATE, age), (CONFIRMED, age)]) {
+        // At every age those for the minute that goes on.
+        let by_minute = [1, 2, 3, 4].map(|minutes| blocks_to_come(record, minutes, &mut random));
+        for (time, age) in (0..120).flat_map(|age| [(CANDIDATE, age), (CONFIRMED, age)]) {
             for bad in 0..=3 {
                 let state = holding(time, record, age, locked(bad, 0));
-                for &sent in &blocks {
+                let blocks = &by_minute[usize::from(age) / MINUTE];
+                for &sent in blocks {
                     let waiting = random.below(BLOCK);
                     let bits = bits_of(sent);
                     let mut receiver = Receiver::going_on_from(with_waiting(state, &bits, waiting));
@@ -173,6 +177,43 @@ fn every_block_to_a_locked_receiver() {
         }
     }
     report("blocks to a locked receiver", count);
+}
+
+/// The state in which this block leaves a receiver that has held a record for so
+/// many minutes when the block ends.
+fn after_minutes(record: Record, minutes: u8, sent: u64) -> State {
+    let state = holding(CONFIRMED, record, minutes * MINUTE as u8 - 1, locked(0, 0));
+    let mut receiver = Receiver::going_on_from(state);
+    receiver.run(&bits_of(sent));
+    *receiver.state()
+}
+
+/// The day after 30 December 2012 has no record.
+#[test]
+fn nothing_confirms_where_one_of_the_minutes_does_not_exist() {
+    let years = |date: &Date| (1986..1986 + 28).contains(&date.year);
+    let days = calendar::all_days().filter(years).map(calendar::record_of_date);
+    let days: Vec<Record> = days.filter_map(Result::ok).collect();
+    let pairs = (56..60).flat_map(|minute| (1..=4).map(move |minutes| (minute, minutes)));
+    for (minute, minutes) in pairs {
+        let held = Record { minute, ..records()[3] };
+        let told = (minute + minutes) % 60;
+        if told == minute + minutes {
+            let state = after_minutes(held, minutes, time_block(Record { minute: told, ..held }));
+            assert_eq!(state.time, CONFIRMED, "{minutes} minutes after {held:?}");
+            continue;
+        }
+        for &day in &days {
+            let state = after_minutes(held, minutes, time_block(Record { minute: told, ..day }));
+            assert_eq!(state.time, CANDIDATE, "{day:?}, {minutes} minutes after {held:?}");
+        }
+        // A block that tells the day itself, in week 54, is not usable.
+        let monday = Record { weekday: 1, hour: 0, minute: told, ..held };
+        let word = record::write(monday).expect("fields in range") + (1 << 20);
+        let state = after_minutes(held, minutes, block(0, word));
+        let time = if minutes < 4 { CONFIRMED } else { NO_TIME };
+        assert_eq!(state.time, time, "week 54, {minutes} minutes after {held:?}");
+    }
 }
 
 #[test]
@@ -188,7 +229,7 @@ fn a_million_random_proper_states() {
             2 => locked(random.between(0, 3), 0),
             _ => {
                 let time = random.between(CANDIDATE, CONFIRMED);
-                let age = random.between(0, 29);
+                let age = random.between(0, 119);
                 holding(time, random.usable_record(), age, locked(random.between(0, 3), 0))
             }
         };

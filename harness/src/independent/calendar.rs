@@ -145,6 +145,12 @@ pub fn next_minute(record: Record) -> Result<Record, u8> {
     Ok(Record { leap, start_day, week, weekday, hour: 0, minute: 0, offset: record.offset })
 }
 
+/// The next minute taken so many times, or the refusal of the first step that
+/// does not exist.
+pub fn minutes_later(record: Record, count: usize) -> Result<Record, u8> {
+    (0..count).try_fold(record, |told, _| next_minute(told))
+}
+
 /// Every day of the years that can be written, at 00:00 with offset 0.
 pub fn all_days() -> impl Iterator<Item = Date> {
     let date = |&Day { year, month, day, .. }: &Day| Date { year, month, day, ..Date::default() };

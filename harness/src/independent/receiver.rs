@@ -17,6 +17,9 @@ const LOSING: usize = 4;
 /// Blocks in a minute, and so from one time block to the next.
 pub const MINUTE: usize = 30;
 
+/// Minutes for which a time is held, so that three time blocks may be missed.
+pub const HELD: usize = 4;
+
 /// Good, or bad in some way.
 type Verdict = Result<(), Fault>;
 
@@ -68,35 +71,39 @@ impl Search {
         self.blocks.iter().rev().take_while(|verdict| verdict.is_err()).count()
     }
 
-    /// The last usable time block, if it is less than a minute old, with its
-    /// age in blocks.
-    fn time(&self) -> Option<(&Time, usize)> {
+    /// The last usable time block, if it is less than so many minutes old, with
+    /// its age in blocks.
+    fn time(&self, held: usize) -> Option<(&Time, usize)> {
         let time = self.times.last()?;
         let age = self.blocks.len() - 1 - time.block;
-        (age < MINUTE).then_some((time, age))
+        (age < held * MINUTE).then_some((time, age))
     }
 
-    /// Takes in the block whose fifty bits these are.
-    fn judge(&mut self, bits: &[u8]) {
+    /// Takes in the block whose fifty bits these are, where a time is held for
+    /// so many minutes.
+    fn judge(&mut self, bits: &[u8], held: usize) {
         let place = self.blocks.len();
         let read = read(bits);
         self.blocks.push(read.map(drop));
         let record = read.ok().and_then(|(code, word)| record::read(code, word).ok());
         if let Some(record) = record.filter(calendar::usable) {
             if place >= LOCKING {
-                let confirmed = self.confirmed_by(place, &record);
+                let confirmed = self.confirmed_by(place, &record, held);
                 self.times.push(Time { block: place, record, confirmed });
             }
         }
     }
 
-    /// Whether the usable time block before this one is exactly a minute older
-    /// and tells the minute before. The offset may change.
-    fn confirmed_by(&self, place: usize, record: &Record) -> bool {
+    /// Whether the usable time block before this one is some whole minutes older,
+    /// at most as many as a time is held, and tells a time just as many minutes
+    /// earlier. The offset may change.
+    fn confirmed_by(&self, place: usize, record: &Record, held: usize) -> bool {
         self.times.last().is_some_and(|earlier| {
-            let next = calendar::next_minute(earlier.record);
-            earlier.block + MINUTE == place
-                && next == Ok(Record { offset: earlier.record.offset, ..*record })
+            let told = Record { offset: earlier.record.offset, ..*record };
+            (1..=held).any(|minutes| {
+                earlier.block + minutes * MINUTE == place
+                    && calendar::minutes_later(earlier.record, minutes) == Ok(told)
+            })
         })
     }
 }
@@ -105,12 +112,19 @@ impl Search {
 pub struct History {
     bits: Vec<u8>,
     searches: Vec<Search>,
+    /// Minutes for which a time is held.
+    held: usize,
 }
 
 impl History {
     /// Nothing heard yet.
     pub fn fresh() -> Self {
-        History { bits: Vec::new(), searches: vec![Search::default()] }
+        History::holding_for(HELD)
+    }
+
+    /// Nothing heard yet, by a receiver that holds a time for so many minutes.
+    pub fn holding_for(held: usize) -> Self {
+        History { bits: Vec::new(), searches: vec![Search::default()], held }
     }
 
     /// A history, made up, that ends in this proper state. Of blocks long past
@@ -120,7 +134,7 @@ impl History {
         match state.mode {
             TRYING => search.blocks = vec![Ok(()); state.good.into()],
             LOCKED => {
-                search.blocks = vec![Ok(()); LOCKING + MINUTE];
+                search.blocks = vec![Ok(()); LOCKING + HELD * MINUTE];
                 search.blocks.extend(vec![Err(WRONG_PREFIX.into()); state.bad.into()]);
             }
             _ => {}
@@ -133,7 +147,7 @@ impl History {
         search.start = (state.mode != HUNTING).then_some(0);
         let mut bits = vec![0; search.blocks.len() * BLOCK];
         bits.extend(&state.bits[..state.waiting.into()]);
-        History { bits, searches: vec![search] }
+        History { bits, searches: vec![search], held: HELD }
     }
 
     /// How many bits were heard.
@@ -163,7 +177,7 @@ impl History {
             Some(start) if !(heard - start).is_multiple_of(BLOCK) => return,
             Some(_) => {}
         }
-        search.judge(&self.bits[window..]);
+        search.judge(&self.bits[window..], self.held);
         if search.is_given_up() {
             self.searches.push(Search { from: heard, ..Search::default() });
         }
@@ -223,7 +237,7 @@ impl History {
             state.mode = TRYING;
             state.good = search.blocks.len() as u8;
         }
-        if let Some((time, age)) = search.time() {
+        if let Some((time, age)) = search.time(self.held) {
             state.time = if time.confirmed { CONFIRMED } else { CANDIDATE };
             state.record = time.record;
             state.age = age as u8;
@@ -250,7 +264,7 @@ pub fn is_proper(state: &State) -> bool {
     let timed = match state.time {
         NO_TIME => (state.record, state.age) == (Record::default(), 0),
         CANDIDATE | CONFIRMED => {
-            state.mode == LOCKED && state.age <= 29 && calendar::usable(&state.record)
+            state.mode == LOCKED && state.age <= 119 && calendar::usable(&state.record)
         }
         _ => false,
     };

@@ -22,8 +22,13 @@ pub fn usable(record: &Record) -> bool {
     in_range(record) && (1..=last_day(record)).contains(&day_of_year(record))
 }
 
+/// The next minute of a usable record taken so many times, if each is there.
+pub fn minutes_later(record: Record, count: u8) -> Option<Record> {
+    (0..count).try_fold(record, |told, _| next_minute(told))
+}
+
 /// The minute after that of a usable record, if there is one.
-pub fn next_minute(record: Record) -> Option<Record> {
+fn next_minute(record: Record) -> Option<Record> {
     match record {
         Record { minute: 0..59, .. } => Some(Record { minute: record.minute + 1, ..record }),
         Record { hour: 0..23, .. } => Some(Record { hour: record.hour + 1, minute: 0, ..record }),
