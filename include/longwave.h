@@ -184,8 +184,8 @@ enum {
 enum {
     LW_NO_TIME = 0,
     LW_CANDIDATE = 1, /* a usable time block came */
-    LW_CONFIRMED = 2  /* it came 30 blocks after the last one and tells the next minute;
-                         the offset may differ */
+    LW_CONFIRMED = 2  /* it came 30, 60, 90 or 120 blocks after the last one and tells
+                         1, 2, 3 or 4 minutes more; the offset may differ */
 };
 
 /* A receiver's state. It belongs to the caller, who may copy it; all zeros are
@@ -194,7 +194,11 @@ enum {
  * A state is proper when every field has a value given here, the first `waiting`
  * of `bits` are 0 or 1, and whatever is not in use is 0: the other bits, and
  * with LW_NO_TIME the whole record and the age. Time is held only when locked,
- * and its record is usable: fields in range, and a day that is in its year. */
+ * and its record is usable: fields in range, and a day that is in its year.
+ *
+ * A time, candidate or confirmed, is held over three missed minutes, until 120
+ * blocks have come since its record. The minute that begins now is that of the
+ * record, and one more for every 30 blocks of its age. */
 typedef struct lw_state {
     uint8_t mode;            /* LW_HUNTING, LW_TRYING or LW_LOCKED */
     uint8_t good;            /* trying: 1 or 2 good blocks so far; else 0 */
@@ -203,7 +207,7 @@ typedef struct lw_state {
     uint8_t bits[50];        /* these bits, oldest first */
     uint8_t time;            /* LW_NO_TIME, LW_CANDIDATE or LW_CONFIRMED */
     struct lw_record record; /* what the last usable time block told */
-    uint8_t age;             /* 0 to 29 blocks since then */
+    uint8_t age;             /* 0 to 119 blocks since then */
 } lw_state;
 
 /* What a call did. Refused with 9 or 10, all counts and the remainder are 0; else
