@@ -1,5 +1,5 @@
--- The blocks of some minutes: a usable time block makes a candidate, each other block ages what is held by one, and the block of as
--- many minutes later as went by confirms.
+-- The blocks of some minutes: a usable time block makes a candidate, each other block ages what is held by one, up to the last age,
+-- and the block of as many minutes later as went by confirms.
 -- Assumes nothing.
 use Prim.Native.Nat.{ℕ, _+_, _*_, _<_, _≤_}
 use native.Mathlib.Nat.{add-zero}
@@ -7,7 +7,7 @@ use native.Mathlib.Omega.{arith}
 use mathlib.Core.Path.{_≡_, refl, sym, ap, _∙_}
 use mathlib.Core.Bool.{true, false}
 use mathlib.Core.List.{List, [], _∷_, _++_, append-nil, flatten}
-use borrow.Author.Tests.{eq-eqb, ne-eqb, lt-leb}
+use borrow.Author.Tests.{eq-eqb, ne-eqb, le-leb, lt-leb}
 use lib.Dec.{eqb}
 use lib.ListN.{length}
 use Rattle.block.specs.Bits.{zeros}
@@ -22,7 +22,7 @@ use Rattle.calendar.specs.MinutesLater.{minutesLater}
 use Rattle.calendar.proofs.Answers.{Usable}
 use Rattle.timekeeping.specs.declared.Time.{Time}
 use Rattle.timekeeping.specs.Proper.{isGiven}
-use Rattle.timekeeping.specs.Times.{none, candidate, confirmed, timeOf, usableIn, sameMinute, follows, renewedBy, agedBy, offeredTo}
+use Rattle.timekeeping.specs.Times.{none, candidate, confirmed, timeOf, noTime, usableIn, sameMinute, follows, renewedBy, agedBy, offeredTo}
 use Rattle.timekeeping.proofs.WholeMinutes.{confirms-exactly}
 use Rattle.locking.specs.declared.Blocks.{Blocks}
 use Rattle.locking.specs.declared.Lock.{Lock}
@@ -47,6 +47,11 @@ ages : (kind : ℕ) (r : Record) (age : ℕ) (u : Recorded) → candidate ≤ ki
 unfolding offeredTo agedBy
 ages kind r age (Given n) held e h = cc
 ages kind r age (Refused why) held e h = rw (ne-eqb kind none (λ z. omega arith), lt-leb 120 (age + 1) h)
+
+goes : (kind : ℕ) (r : Record) (age : ℕ) (u : Recorded) → candidate ≤ kind → isGiven u ≡ false → 120 ≤ age + 1 → offeredTo (timeOf kind r age) u ≡ noTime
+unfolding offeredTo agedBy
+goes kind r age (Given n) held e h = cc
+goes kind r age (Refused why) held e h = rw (ne-eqb kind none (λ z. omega arith), le-leb 120 (age + 1) h)
 
 same : (n : ℕ) → eqb n n ≡ true
 same n = eq-eqb n n refl
@@ -88,6 +93,12 @@ first-block r s u i =
     ∙ rw (from-none (lockIn s .time) r (i .no-time)) (ap (λ (b : Blocks). ended 0 b 0 (holding 0 candidate r 0)) (none-plus (countRead (readOf (timeBlock r)))))
 
 module _ (kind : ℕ) (held : candidate ≤ kind) (r : Record) where
+  -- one of the others is offered to the time
+  one-other : (w rest : List ℕ) (blocks : Blocks) (bad age : ℕ) → Other w → badRun bad (readOf w) < 4
+      → runFrom (w ++ rest) blocks 0 (holding bad kind r age)
+      ≡ runFrom rest (plus blocks (countRead (readOf w))) 0 (nothingWaits (lockOf locked 0 (badRun bad (readOf w)) (offeredTo (timeOf kind r age) (usableIn (readOf w)))))
+  one-other w rest blocks bad age o l = feeds w (zeros 50) rest blocks (lockOf locked 0 bad (timeOf kind r age)) (o .size) (o .bits) refl refl l
+
   -- after others the record has grown older by as many blocks
   pub other-blocks : (ws rest : List (List ℕ)) (blocks : Blocks) (bad age : ℕ) → Each Other ws → LockHolds bad ws → age + length ws < 120
       → runFrom (flatten (ws ++ rest)) blocks 0 (holding bad kind r age)
@@ -96,10 +107,24 @@ module _ (kind : ℕ) (held : candidate ≤ kind) (r : Record) where
   other-blocks [] rest blocks bad age o l h = rw (plus-none blocks, add-zero age)
   other-blocks (w ∷ ws) rest blocks bad age o l h =
       let a : age + 1 + length ws ≡ age + length (w ∷ ws) = omega arith in
-      let one = countRead (readOf w) in
-      feeds w (zeros 50) (flatten (ws ++ rest)) blocks (lockOf locked 0 bad (timeOf kind r age)) (o .0 .size) (o .0 .bits) refl refl (l .0)
-      ∙ rw (ages kind r age (usableIn (readOf w)) held (o .0 .unusable) (omega arith), ← a, ← plus-assoc blocks one (countBlocks ws))
-      (other-blocks ws rest (plus blocks one) (badRun bad (readOf w)) (age + 1) (o .1) (l .1) (omega arith))
+      one-other w (flatten (ws ++ rest)) blocks bad age (o .0) (l .0)
+      ∙ rw (ages kind r age (usableIn (readOf w)) held (o .0 .unusable) (omega arith), ← a, ← plus-assoc blocks (countRead (readOf w)) (countBlocks ws))
+      (other-blocks ws rest (plus blocks (countRead (readOf w))) (badRun bad (readOf w)) (age + 1) (o .1) (l .1) (omega arith))
+
+  -- and at age 120 it is gone
+  pub gone : (ws : List (List ℕ)) (blocks : Blocks) (bad age : ℕ) → Each Other ws → LockHolds bad ws → 0 < length ws → age + length ws ≡ 120
+      → runFrom (flatten ws) blocks 0 (holding bad kind r age) ≡ ended 0 (plus blocks (countBlocks ws)) 0 (nothingWaits (lockOf locked 0 (badRunAfter bad ws) noTime))
+  unfolding flatten runFrom
+  gone [] blocks bad age o l some h = absurd (omega arith)
+  gone (w ∷ []) blocks bad age o l some h =
+      one-other w [] blocks bad age (o .0) (l .0)
+      ∙ rw (goes kind r age (usableIn (readOf w)) held (o .0 .unusable) (omega arith))
+      (ap (λ (b : Blocks). ended 0 (plus blocks b) 0 (nothingWaits (lockOf locked 0 (badRun bad (readOf w)) noTime))) (sym (plus-none (countRead (readOf w)))))
+  gone (w ∷ v ∷ ws) blocks bad age o l some h =
+      one-other w (flatten (v ∷ ws)) blocks bad age (o .0) (l .0)
+      ∙ rw (ages kind r age (usableIn (readOf w)) held (o .0 .unusable) (omega arith))
+      (gone (v ∷ ws) (plus blocks (countRead (readOf w))) (badRun bad (readOf w)) (age + 1) (o .1) (l .1) (omega arith) (omega arith)
+      ∙ ap (λ (b : Blocks). ended 0 b 0 (nothingWaits (lockOf locked 0 (badRunAfter bad (w ∷ v ∷ ws)) noTime))) (plus-assoc blocks (countRead (readOf w)) (countBlocks (v ∷ ws))))
 
   -- the block of as many minutes later as went by leaves its record confirmed
   pub last-block : (minutes bad age : ℕ) (n : Record) (blocks : Blocks) → 1 ≤ minutes → minutes ≤ 4 → age + 1 ≡ 30 * minutes → Usable n → minutesLater minutes r ≡ Given n

@@ -22,18 +22,18 @@ use Rattle.calendar.specs.MinutesLater.{minutesLater, minutesLaterOfDate}
 use Rattle.calendar.proofs.Answers.{Usable, usable-is}
 use Rattle.calendar.proofs.RoundTrip.{date-back}
 use Rattle.timekeeping.specs.Proper.{timeProper}
-use Rattle.timekeeping.specs.Times.{none, candidate, confirmed}
+use Rattle.timekeeping.specs.Times.{none, candidate, confirmed, noTime}
 use Rattle.locking.specs.declared.Blocks.{Blocks}
-use Rattle.locking.specs.Locks.{lockProper}
+use Rattle.locking.specs.Locks.{locked, lockOf, lockProper}
 use Rattle.locking.specs.Modes.{blocksOf, noBlocks}
 use Rattle.receiver.specs.declared.State.{State}
-use Rattle.receiver.specs.States.{bitsProper, properOf}
+use Rattle.receiver.specs.States.{nothingWaits, bitsProper, properOf}
 use Rattle.receiver.specs.Runs.{plus, ended, runFrom, runOf}
 use Rattle.receiver.proofs.Adding.{none-plus, plus-none, plus-assoc}
 use Rattle.receiver.proofs.Together.{run-is}
 use Rattle.journey.specs.Journey.{timeBlock, Other, Each, badRunAfter, LockHolds, countRead, countBlocks, Quiet, Missed, heard, Idle, holding, Leads, Writable, EveryJourney}
 use Rattle.journey.proofs.Worded.{date-usable, later-usable, years-on, later-recorded, has-word, word-fits}
-use Rattle.journey.proofs.Minutes.{first-block, other-blocks, last-block}
+use Rattle.journey.proofs.Minutes.{first-block, other-blocks, gone, last-block}
 use Rattle.journey.proofs.Missed.{others-append, heard-others, heard-length, missed-hold}
 
 -- ---- lengths and counts
@@ -76,6 +76,14 @@ module _ (kind : ℕ) (held : candidate ≤ kind) (known : kind ≤ confirmed) (
   unfolding flatten runFrom
   lasts others few o l = ap (λ (ws : List (List ℕ)). runOf (holding 0 kind r 0) (flatten ws)) (sym (append-nil others)) ∙ on others [] o l few (omega arith)
 
+  ends : (others : List (List ℕ)) → length others ≡ 120 → Each Other others → LockHolds 0 others
+      → Leads (holding 0 kind r 0) others (nothingWaits (lockOf locked 0 (badRunAfter 0 others) noTime))
+  unfolding flatten
+  ends others count o l =
+      run-is (holding 0 kind r 0) (flatten others) (omega (arith, rw append-nil at (length-flat others [] o))) begun
+      ∙ gone kind held r others noBlocks 0 0 o l (omega arith) (omega arith)
+      ∙ ap (λ (b : Blocks). ended 0 b 0 (nothingWaits (lockOf locked 0 (badRunAfter 0 others) noTime))) (none-plus (countBlocks others))
+
   module _ (minutes : ℕ) (from : 1 ≤ minutes) (to : minutes ≤ 4) (n : Record) (e : minutesLater minutes r ≡ Given n) where
     confirms : (others : List (List ℕ)) → length others + 1 ≡ 30 * minutes → Each Other others → LockHolds 0 others
         → Leads (holding 0 kind r 0) (others ++ timeBlock n ∷ []) (holding 0 confirmed n 0)
@@ -111,6 +119,7 @@ journey s d r first i w =
       arrives = arrives s r i u;
       dates-back = date-back d r first (w .is-recorded) (w .from-first) (w .to-last) (w .begun) (w .within);
       lasts = λ kind held known. lasts kind held known r u;
+      ends = λ kind held known. ends kind held known r u;
       goes-on = λ minutes from to n e.
           record {
             has-word = has-word n (later-usable minutes r n u e);

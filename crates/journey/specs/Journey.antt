@@ -25,7 +25,7 @@ use Rattle.calendar.specs.Years.{firstYear, lastFirstYear, span}
 use Rattle.calendar.specs.Dates.{dateOf, recordOf}
 use Rattle.calendar.specs.MinutesLater.{minutesLater, minutesLaterOfDate}
 use Rattle.timekeeping.specs.Proper.{isGiven}
-use Rattle.timekeeping.specs.Times.{none, candidate, confirmed, timeOf, usableIn}
+use Rattle.timekeeping.specs.Times.{none, candidate, confirmed, timeOf, noTime, usableIn}
 use Rattle.locking.specs.declared.Blocks.{Blocks}
 use Rattle.locking.specs.Locks.{locked, lockOf}
 use Rattle.locking.specs.Modes.{isGood, blocksOf, noBlocks}
@@ -171,6 +171,16 @@ pub record Journey (s : State) (d : Date) (r : Record) (first : ℕ) : Type 0 wh
       Each Other others →
       LockHolds 0 others →
       Leads (holding 0 kind r 0) others (holding (badRunAfter 0 others) kind r (length others))
+  -- with the 120th it is gone
+  pub ends :
+      (kind : ℕ) →
+      candidate ≤ kind →
+      kind ≤ confirmed →
+      (others : List (List ℕ)) →
+      length others ≡ 120 →
+      Each Other others →
+      LockHolds 0 others →
+      Leads (holding 0 kind r 0) others (nothingWaits (lockOf locked 0 (badRunAfter 0 others) noTime))
   -- and it goes on for one to four minutes; there is no record then only where a day in week 54 begins in between
   pub goes-on : (minutes : ℕ) → 1 ≤ minutes → minutes ≤ 4 → (n : Record) → minutesLater minutes r ≡ recorded.Given n → MinutesOn d r first minutes n
 
