@@ -42,16 +42,19 @@ from-none : (t : Time) (r : Record) → t .kind ≡ none → offeredTo t (Given 
 unfolding offeredTo renewedBy
 from-none t r e = rw e
 
-ages : (kind : ℕ) (r : Record) (age : ℕ) (u : Recorded) → candidate ≤ kind → isGiven u ≡ false → age + 1 < 120
-    → offeredTo (timeOf kind r age) u ≡ timeOf kind r (age + 1)
-unfolding offeredTo agedBy
-ages kind r age (Given n) held e h = cc
-ages kind r age (Refused why) held e h = rw (ne-eqb kind none (λ z. omega arith), lt-leb 120 (age + 1) h)
+unusable-ages : (t : Time) (u : Recorded) → isGiven u ≡ false → offeredTo t u ≡ agedBy t
+unfolding offeredTo
+unusable-ages t (Given n) e = cc
+unusable-ages t (Refused why) e = refl
 
-goes : (kind : ℕ) (r : Record) (age : ℕ) (u : Recorded) → candidate ≤ kind → isGiven u ≡ false → 120 ≤ age + 1 → offeredTo (timeOf kind r age) u ≡ noTime
-unfolding offeredTo agedBy
-goes kind r age (Given n) held e h = cc
-goes kind r age (Refused why) held e h = rw (ne-eqb kind none (λ z. omega arith), le-leb 120 (age + 1) h)
+module _ (kind : ℕ) (r : Record) (age : ℕ) (held : candidate ≤ kind) where
+  ages : age + 1 < 120 → agedBy (timeOf kind r age) ≡ timeOf kind r (age + 1)
+  unfolding agedBy
+  ages h = rw (ne-eqb kind none (λ z. omega arith), lt-leb 120 (age + 1) h)
+
+  goes : 120 ≤ age + 1 → agedBy (timeOf kind r age) ≡ noTime
+  unfolding agedBy
+  goes h = rw (ne-eqb kind none (λ z. omega arith), le-leb 120 (age + 1) h)
 
 same : (n : ℕ) → eqb n n ≡ true
 same n = eq-eqb n n refl
@@ -93,11 +96,13 @@ first-block r s u i =
     ∙ rw (from-none (lockIn s .time) r (i .no-time)) (ap (λ (b : Blocks). ended 0 b 0 (holding 0 candidate r 0)) (none-plus (countRead (readOf (timeBlock r)))))
 
 module _ (kind : ℕ) (held : candidate ≤ kind) (r : Record) where
-  -- one of the others is offered to the time
+  -- one of the others ages the time
   one-other : (w rest : List ℕ) (blocks : Blocks) (bad age : ℕ) → Other w → badRun bad (readOf w) < 4
       → runFrom (w ++ rest) blocks 0 (holding bad kind r age)
-      ≡ runFrom rest (plus blocks (countRead (readOf w))) 0 (nothingWaits (lockOf locked 0 (badRun bad (readOf w)) (offeredTo (timeOf kind r age) (usableIn (readOf w)))))
-  one-other w rest blocks bad age o l = feeds w (zeros 50) rest blocks (lockOf locked 0 bad (timeOf kind r age)) (o .size) (o .bits) refl refl l
+      ≡ runFrom rest (plus blocks (countRead (readOf w))) 0 (nothingWaits (lockOf locked 0 (badRun bad (readOf w)) (agedBy (timeOf kind r age))))
+  one-other w rest blocks bad age o l =
+      feeds w (zeros 50) rest blocks (lockOf locked 0 bad (timeOf kind r age)) (o .size) (o .bits) refl refl l
+      ∙ rw (unusable-ages (timeOf kind r age) (usableIn (readOf w)) (o .unusable))
 
   -- after others the record has grown older by as many blocks
   pub other-blocks : (ws rest : List (List ℕ)) (blocks : Blocks) (bad age : ℕ) → Each Other ws → LockHolds bad ws → age + length ws < 120
@@ -108,7 +113,7 @@ module _ (kind : ℕ) (held : candidate ≤ kind) (r : Record) where
   other-blocks (w ∷ ws) rest blocks bad age o l h =
       let a : age + 1 + length ws ≡ age + length (w ∷ ws) = omega arith in
       one-other w (flatten (ws ++ rest)) blocks bad age (o .0) (l .0)
-      ∙ rw (ages kind r age (usableIn (readOf w)) held (o .0 .unusable) (omega arith), ← a, ← plus-assoc blocks (countRead (readOf w)) (countBlocks ws))
+      ∙ rw (ages kind r age held (omega arith), ← a, ← plus-assoc blocks (countRead (readOf w)) (countBlocks ws))
       (other-blocks ws rest (plus blocks (countRead (readOf w))) (badRun bad (readOf w)) (age + 1) (o .1) (l .1) (omega arith))
 
   -- and at age 120 it is gone
@@ -118,11 +123,11 @@ module _ (kind : ℕ) (held : candidate ≤ kind) (r : Record) where
   gone [] blocks bad age o l some h = absurd (omega arith)
   gone (w ∷ []) blocks bad age o l some h =
       one-other w [] blocks bad age (o .0) (l .0)
-      ∙ rw (goes kind r age (usableIn (readOf w)) held (o .0 .unusable) (omega arith))
+      ∙ rw (goes kind r age held (omega arith))
       (ap (λ (b : Blocks). ended 0 (plus blocks b) 0 (nothingWaits (lockOf locked 0 (badRun bad (readOf w)) noTime))) (sym (plus-none (countRead (readOf w)))))
   gone (w ∷ v ∷ ws) blocks bad age o l some h =
       one-other w (flatten (v ∷ ws)) blocks bad age (o .0) (l .0)
-      ∙ rw (ages kind r age (usableIn (readOf w)) held (o .0 .unusable) (omega arith))
+      ∙ rw (ages kind r age held (omega arith))
       (gone (v ∷ ws) (plus blocks (countRead (readOf w))) (badRun bad (readOf w)) (age + 1) (o .1) (l .1) (omega arith) (omega arith)
       ∙ ap (λ (b : Blocks). ended 0 b 0 (nothingWaits (lockOf locked 0 (badRunAfter bad (w ∷ v ∷ ws)) noTime))) (plus-assoc blocks (countRead (readOf w)) (countBlocks (v ∷ ws))))
 

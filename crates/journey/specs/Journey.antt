@@ -45,7 +45,7 @@ pub record Other (w : List ℕ) : Type 0 where
   pub bits : Bits w
   pub unusable : isGiven (usableIn (readOf w)) ≡ false
 
--- each of some blocks is such a one
+-- what is asked holds of each of some blocks
 abbrev pub Each : (List ℕ → Type 0) → List (List ℕ) → Type 0
 Each P [] = Unit {0}
 Each P (w ∷ ws) = P w × Each P ws
