@@ -1,10 +1,10 @@
 -- What each answer says of its input: the tests that were passed on the way to it.
 -- Assumes nothing.
-use Prim.Native.Nat.{ℕ, _≤_, _<_}
+use Prim.Native.Nat.{ℕ, _≤_}
 use native.Mathlib.Omega.{arith}
 use mathlib.Core.Path.{_≡_, refl, ap, _∙_}
 use mathlib.Core.Bool.{true}
-use borrow.Author.Tests.{leb-true, le-leb, lt-leb}
+use borrow.Author.Tests.{leb-true, le-leb}
 use lib.Dec.{leb}
 use Rattle.refusal.specs.declared.Refusal.{Refusal}
 use Rattle.refusal.specs.declared.Refusal.the-variants.{OutOfRange, NotInYear, WrongYear}
@@ -15,10 +15,10 @@ use Rattle.record.specs.Ranges.{within, inRange}
 use Rattle.record.proofs.Tests.{between, is-within, chosen, not-given}
 use Rattle.calendar.specs.declared.Date.{Date}
 use Rattle.calendar.specs.declared.Dated.the-variants as dated
-use Rattle.calendar.specs.Years.{firstYear, lastFirstYear, lastYear}
-use Rattle.calendar.specs.Days.{dayInYear}
-use Rattle.calendar.specs.Dates.{usableOf, dateIn, dateAfter, dateOf, dateInRange, recordAt, recordOf}
+use Rattle.calendar.specs.Years.{firstYear, lastFirstYear, lastYear, firstCivilYear, lastCivilYear}
+use Rattle.calendar.specs.Dates.{weeksIn, usableOf, dateIn, dateAfter, dateOf, dateInRange, codedYear, recordAt, recordOf}
 use Rattle.calendar.proofs.Bounds.{Bounds, bounds, in-range}
+use Rattle.calendar.proofs.CodedYear.{coded-near}
 
 not-dated : (why : Refusal) (d : Date) → dated.Refused why ≡ dated.Given d → ⊥
 not-dated why d e = let z : _≡_ {A = ℕ} 0 1 = cc in omega arith
@@ -32,44 +32,46 @@ after-given first d (recorded.Refused why) e = absurd (not-dated why d e)
 
 pub record Usable (r : Record) : Type 0 where
   pub in-range : inRange r ≡ true
-  pub in-year : dayInYear r ≡ true
+  pub in-year : r .week ≤ weeksIn r
 
 pub usable-given : (u r : Record) → usableOf u ≡ recorded.Given r → (u ≡ r) × Usable r
 unfolding usableOf
 usable-given u r e =
     let a = chosen (inRange u) _ _ _ (not-given OutOfRange r) e in
-    let b = chosen (dayInYear u) _ _ _ (not-given NotInYear r) (a .1) in
+    let b = chosen (leb (u .week) (weeksIn u)) _ _ _ (not-given NotInYear r) (a .1) in
     let same : u ≡ r = cc in
-    (same, record { in-range = rw same at (a .0); in-year = rw same at (b .0) })
+    (same, record { in-range = rw same at (a .0); in-year = rw same at (leb-true (u .week) (weeksIn u) (b .0)) })
 
 pub usable-is : (r : Record) → Usable r → usableOf r ≡ recorded.Given r
 unfolding usableOf
-usable-is r u = rw (u .in-range, u .in-year)
+usable-is r u = rw (u .in-range, le-leb (r .week) (weeksIn r) (u .in-year))
 
 -- ---- the record of a date
 
+-- a date in range whose week's year can be coded
 pub record InCalendar (d : Date) : Type 0 where
-  pub from : firstYear ≤ d .year
-  pub to : d .year ≤ lastYear
+  pub from : firstYear ≤ codedYear d
+  pub to : codedYear d ≤ lastYear
   pub bounds : Bounds d
 
-module _ (d : Date) (c : InCalendar d) where
-  pub record-is : recordAt d .week ≤ 53 → recordOf d ≡ recorded.Given (recordAt d)
-  unfolding recordOf
-  record-is h = rw (is-within 1901 (d .year) 2099 (c .from) (c .to), in-range d (c .bounds), le-leb (recordAt d .week) 53 h)
+-- so its civil year is one of those that dates can lie in
+pub civil : (d : Date) → InCalendar d → (firstCivilYear ≤ d .year) × (d .year ≤ lastCivilYear)
+civil d c = let n = coded-near d in (omega (arith, c .from), omega (arith, c .to))
 
-  pub record-none : 53 < recordAt d .week → recordOf d ≡ recorded.Refused NotInYear
-  unfolding recordOf
-  record-none h = rw (is-within 1901 (d .year) 2099 (c .from) (c .to), in-range d (c .bounds), lt-leb (recordAt d .week) 53 h)
+pub record-is : (d : Date) → InCalendar d → recordOf d ≡ recorded.Given (recordAt d)
+unfolding recordOf
+record-is d c =
+    let year = civil d c in
+    rw (is-within 1900 (d .year) 2100 (year .0) (year .1), in-range d (c .bounds), is-within 1901 (codedYear d) 2099 (c .from) (c .to))
 
-pub record-given : (d : Date) (r : Record) → recordOf d ≡ recorded.Given r → InCalendar d × (recordAt d .week ≤ 53) × (recordAt d ≡ r)
+pub record-given : (d : Date) (r : Record) → recordOf d ≡ recorded.Given r → InCalendar d × (recordAt d ≡ r)
 unfolding recordOf
 record-given d r e =
-    let a = chosen (within firstYear (d .year) lastYear) _ _ _ (not-given WrongYear r) e in
+    let a = chosen (within firstCivilYear (d .year) lastCivilYear) _ _ _ (not-given WrongYear r) e in
     let b = chosen (dateInRange d) _ _ _ (not-given OutOfRange r) (a .1) in
-    let c = chosen (leb (recordAt d .week) 53) _ _ _ (not-given NotInYear r) (b .1) in
-    let year = between 1901 (d .year) 2099 (a .0) in
-    (record { from = year .0; to = year .1; bounds = bounds d (b .0) }, leb-true _ 53 (c .0), cc)
+    let c = chosen (within firstYear (codedYear d) lastYear) _ _ _ (not-given WrongYear r) (b .1) in
+    let year = between 1901 (codedYear d) 2099 (c .0) in
+    (record { from = year .0; to = year .1; bounds = bounds d (b .0) }, cc)
 
 -- ---- the date of a record
 

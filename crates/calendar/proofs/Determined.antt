@@ -9,7 +9,6 @@ use Rattle.calendar.proofs.next_minute.Reads as next-minute
 use Rattle.calendar.proofs.Date.new.Reads as new
 use Rattle.calendar.proofs.Date.zeros.Reads as zeros
 use Rattle.calendar.proofs.Date.may_be_first.Reads as may-be-first
-use Rattle.calendar.proofs.Date.has_year.Reads as has-year
 
 pub usable-determined : Determined usable.Post
 usable-determined κs a x y s t p q = p ∙ sym q
@@ -31,6 +30,3 @@ zeros-determined κs a x y s t p q = p ∙ sym q
 
 pub may-be-first-determined : Determined may-be-first.Post
 may-be-first-determined κs a x y s t p q = p ∙ sym q
-
-pub has-year-determined : Determined has-year.Post
-has-year-determined κs a x y s t p q = p ∙ sym q

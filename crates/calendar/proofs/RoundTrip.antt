@@ -1,58 +1,84 @@
--- Dates and records, there and back: year, month and day are found again from the kind of year, the week and the weekday.
+-- Dates and records, there and back: both name one day, which lies in one civil and in one coded year.
 -- Assumes nothing.
-use Prim.Native.Nat.{ℕ, _+_, _-_, _≤_, _<_}
+use Prim.Native.Nat.{ℕ, _+_, _*_, _-_, _/_, _%_, _≤_, _<_}
 use native.Mathlib.Omega.{arith}
 use mathlib.Core.Path.{_≡_, refl, ap, _∙_}
-use lib.Dec.{eqb}
 use Rattle.record.specs.declared.Record.{Record}
 use Rattle.record.specs.declared.Recorded.the-variants as recorded
-use Rattle.record.proofs.Tests.{between, is-within}
 use Rattle.record.proofs.Bounds.{bounds as record-bounds, in-range}
 use Rattle.calendar.specs.declared.Date.{Date}
 use Rattle.calendar.specs.declared.Dated.the-variants as dated
-use Rattle.calendar.specs.Years.{firstYear, lastFirstYear, lastYear, span, leapYear, yearLength, startDay, leapCode, yearFrom}
-use Rattle.calendar.specs.Days.{months, monthDay, dayOfYear, dayInYear}
-use Rattle.calendar.specs.Dates.{dateOn, dateIn, dateOf, dayOfDate, recordAt, recordOf}
-use Rattle.calendar.proofs.Years.{leap-four, start-range}
-use Rattle.calendar.proofs.Months.{months-sum, month-back, Found, month-found}
-use Rattle.calendar.proofs.Weeks.{day-back, week-back}
-use Rattle.calendar.proofs.OneYear.{only-one, one}
-use Rattle.calendar.proofs.Bounds.{day-bounds}
-use Rattle.calendar.proofs.Answers.{Usable, InCalendar, record-is, record-given, date-is, date-given}
+use Rattle.calendar.specs.Years.{firstYear, lastFirstYear, firstCivilYear, span, leapYear, newYear, startDay, leapCode, yearFrom}
+use Rattle.calendar.specs.Days.{months, dayOfMonth, monthDay}
+use Rattle.calendar.specs.Weeks.{weekOne, weeksOf, civilYear}
+use Rattle.calendar.specs.Dates.{OfKind, dayOfRecord, dateAt, dateOn, dateFrom, dateIn, dateOf, dayOfDate, codedYear, recordAt, recordOf}
+use Rattle.calendar.proofs.Years.{year-next, year-rises, start-range}
+use Rattle.calendar.proofs.Months.{months-sum, Found, month-found}
+use Rattle.calendar.proofs.Weeks.{weeks-range, one-after}
+use Rattle.calendar.proofs.Around.{Holds, only}
+use Rattle.calendar.proofs.OneYear.{only-one}
+use Rattle.calendar.proofs.Bounds.{Bounds, day-bounds, month-again}
+use Rattle.calendar.proofs.CodedYear.{coded-holds, coded-is, record-on}
+use Rattle.calendar.proofs.Answers.{Usable, InCalendar, civil, record-is, record-given, date-is, date-given}
+use Rattle.calendar.proofs.DayOfRecord.{weeks-kept, coded-day, civil-day, civil-year, found-kind}
 
 -- ---- from a date
 
 module _ (d : Date) (c : InCalendar d) where
-  -- 01's formula gives the day of the year again
-  pub day-kept : dayOfYear (recordAt d) ≡ dayOfDate d
-  unfolding recordAt dayOfYear
-  day-kept =
-      let s = start-range (d .year) in
-      day-back (startDay (d .year)) (s .0) (s .1) (dayOfDate d) (day-bounds d (c .bounds) .0)
+  abbrev y : ℕ
+  y = codedYear d
 
-  pub kind-kept : leapYear (d .year) ≡ eqb (leapCode (d .year)) 0
-  kind-kept = leap-four (d .year) (c .from) (c .to)
+  pub day-in-year : Holds weekOne (dayOfDate d) y
+  day-in-year = coded-holds d (civil d c .0) (c .bounds)
 
-  pub recorded-usable : recordAt d .week ≤ 53 → Usable (recordAt d)
-  unfolding recordAt dayInYear
-  recorded-usable w =
-      let b = c .bounds in
-      let day = day-bounds d b in
+  -- the day lies in the weeks of the year
+  pub since-range : dayOfDate d - weekOne y < 7 * weeksOf (leapYear y) (startDay y)
+  since-range = let h = day-in-year in omega (arith, h .from, h .to, one-after y (omega (arith, c .from)))
+
+  recorded-kind : OfKind y (recordAt d)
+  unfolding recordAt
+  recorded-kind = record { from = c .from; to = c .to; start-day = refl; leap-code = refl }
+
+  pub recorded-usable : Usable (recordAt d)
+  unfolding recordAt
+  recorded-usable =
+      let weeks = weeks-range (leapYear y) (startDay y) in
       record {
         in-range =
             in-range (recordAt d)
-            (record { leap = omega arith; start-day = start-range (d .year); week = (omega arith, w); weekday = (omega arith, omega arith); time = b .time });
-        in-year = rw (day-kept, ← kind-kept) (is-within 1 (dayOfDate d) (yearLength (leapYear (d .year))) (day .0) (day .1));
+            (record {
+              leap = omega arith;
+              start-day = start-range y;
+              week = (omega arith, omega (arith, since-range, weeks));
+              weekday = (omega arith, omega arith);
+              time = c .bounds .time;
+            });
+        in-year = omega (arith, since-range, weeks-kept (recordAt d) y recorded-kind);
       }
 
-  pub date-again : (first : ℕ) → firstYear ≤ first → first ≤ lastFirstYear → first ≤ d .year → d .year < first + span → dateIn first (recordAt d) ≡ d
-  unfolding recordAt dateIn
-  date-again first p q h k =
+  -- the record names the day again
+  day-kept : dayOfRecord y (recordAt d) ≡ dayOfDate d
+  unfolding recordAt
+  day-kept = omega (arith, day-in-year .from)
+
+  year-kept : civilYear y (dayOfDate d) ≡ d .year
+  year-kept =
+      only newYear year-rises (dayOfDate d) (civilYear y (dayOfDate d)) (d .year)
+      (rw day-kept at (civil-day (recordAt d) y recorded-kind recorded-usable))
+      (day-bounds d (civil d c .0) (c .bounds))
+
+  month-kept : dateOn (d .year) (dayOfDate d) (recordAt d) ≡ d
+  unfolding recordAt
+  month-kept =
       let b = c .bounds in
-      let leap = leapYear (d .year) in
-      let month : 1 + (d .month - 1) ≡ d .month = omega (arith, b .month) in
-      let year = only-one first (startDay (d .year)) (leapCode (d .year)) p q (d .year) (record { from = h; to = k; start-day = refl; leap-code = refl }) in
-      rw (year, ← kind-kept, day-kept, month-back (months leap) (d .month - 1) 1 (d .day) (omega (arith, b .month)) (b .day .0) (b .day .1), month)
+      let day : dayOfDate d - newYear (d .year) + 1 ≡ dayOfMonth (leapYear (d .year)) (d .month) (d .day) = omega (arith, b .day .0) in
+      rw (day, month-again d b)
+
+  pub date-again : (first : ℕ) → firstYear ≤ first → first ≤ lastFirstYear → first ≤ y → y < first + span → dateIn first (recordAt d) ≡ d
+  unfolding dateIn recordAt
+  date-again first p q h k =
+      let year = only-one first (startDay y) (leapCode y) p q y (record { from = h; to = k; start-day = refl; leap-code = refl }) in
+      rw (year, day-kept, year-kept) month-kept
 
 -- date to record to date
 pub date-back :
@@ -60,64 +86,75 @@ pub date-back :
     recordOf d ≡ recorded.Given r →
     firstYear ≤ first →
     first ≤ lastFirstYear →
-    first ≤ d .year →
-    d .year < first + span →
+    first ≤ codedYear d →
+    codedYear d < first + span →
     dateOf r first ≡ dated.Given d
 date-back d r first e p q h k =
     let g = record-given d r e in
-    rw (← g .2) (date-is (recordAt d) first p q (recorded-usable d (g .0) (g .1)) ∙ ap dated.Given (date-again d (g .0) first p q h k))
+    rw (← g .1) (date-is (recordAt d) first p q (recorded-usable d (g .0)) ∙ ap dated.Given (date-again d (g .0) first p q h k))
 
 -- ---- from a record
 
-module _ (r : Record) (y : ℕ) (from : firstYear ≤ y) (to : y ≤ lastYear) (start : startDay y ≡ r .«start_day») (leap : leapCode y ≡ r .leap)
-    (u : Usable r) (f : Found (months (eqb (r .leap) 0)) 1 (dayOfYear r)) where
-  abbrev on : Date
-  on = dateOn y (monthDay (1 + f .at) (f .day)) r
+module _ (r : Record) (y : ℕ) (k : OfKind y r) (u : Usable r) where
+  abbrev n : ℕ
+  n = dayOfRecord y r
 
-  leap-again : leapYear y ≡ eqb (r .leap) 0
-  leap-again = leap-four y from to ∙ ap (λ (l : ℕ). eqb l 0) leap
+  abbrev Y : ℕ
+  Y = civilYear y (dayOfRecord y r)
 
-  at-again : 1 + f .at - 1 ≡ f .at
-  at-again = omega arith
+  is-civil : firstCivilYear ≤ Y
+  is-civil = civil-year r y k .0
 
-  on-calendar : InCalendar on
-  on-calendar =
-      record {
-        from = from;
-        to = to;
-        bounds =
-            record {
-              month = (omega arith, omega (arith, f .inside));
-              day = (f .from, rw (leap-again, at-again) (f .to));
-              time = record-bounds r (u .in-range) .time;
-            };
-      }
+  module _ (f : Found (months (leapYear Y)) 1 (n - newYear Y + 1)) where
+    abbrev on : Date
+    on = dateAt Y (monthDay (1 + f .at) (f .day)) r
 
-  day-again : dayOfDate on ≡ dayOfYear r
-  day-again = rw (leap-again, at-again) (f .whole)
+    at-again : 1 + f .at - 1 ≡ f .at
+    at-again = omega arith
 
-  record-again : recordAt on ≡ r
-  unfolding recordAt dayOfYear
-  record-again =
-      let b = record-bounds r (u .in-range) in
-      let s = b .start-day in
-      let v = b .weekday in
-      let w = week-back (r .«start_day») (s .0) (s .1) (r .week) (r .weekday) (b .week .0) (v .0) (v .1) (omega (arith, f .from, f .whole)) in
-      rw (start, leap, day-again, w .0, w .1)
+    on-bounds : Bounds on
+    on-bounds =
+        record {
+          month = (omega arith, omega (arith, f .inside));
+          day = (f .from, rw at-again (f .to));
+          time = record-bounds r (u .in-range) .time;
+        }
 
-  written-again : recordOf on ≡ recorded.Given r
-  written-again =
-      record-is on on-calendar (rw record-again (record-bounds r (u .in-range) .week .1)) ∙ ap recorded.Given record-again
+    day-again : dayOfDate on ≡ n
+    day-again = rw at-again (omega (arith, f .whole, f .from, civil-day r y k u .from))
+
+    coded-again : codedYear on ≡ y
+    coded-again = coded-is on is-civil on-bounds y (rw day-again (coded-day r y k u))
+
+    record-again : recordAt on ≡ r
+    record-again =
+        let b = record-bounds r (u .in-range) in
+        let since = 7 * (r .week - 1) + (r .weekday - 1) in
+        let h = coded-day r y k u in
+        let week : since / 7 + 1 ≡ r .week = omega (arith, b .week, b .weekday) in
+        let weekday : since % 7 + 1 ≡ r .weekday = omega (arith, b .weekday) in
+        record-on on is-civil on-bounds y since (day-again ∙ omega arith) (omega (arith, h .to)) ∙ rw (week, weekday, k .start-day, k .leap-code)
+
+    written-again : recordOf on ≡ recorded.Given r
+    written-again =
+        record-is on (record { from = rw coded-again (k .from); to = rw coded-again (k .to); bounds = on-bounds }) ∙ ap recorded.Given record-again
+
+  found : Found (months (leapYear Y)) 1 (n - newYear Y + 1)
+  found =
+      let h = civil-day r y k u in
+      month-found (months (leapYear Y)) 1 (n - newYear Y + 1) (omega arith)
+      (rw (months-sum (leapYear Y)) (omega (arith, h .from, h .to, year-next Y is-civil)))
+
+  pub from-date : recordOf (dateFrom y r) ≡ recorded.Given r
+  from-date = rw (found .is) (written-again found)
+
+  pub day-of-date : dayOfDate (dateFrom y r) ≡ dayOfRecord y r
+  day-of-date = rw (found .is) (day-again found)
 
 -- record to date to record
 pub record-back : (r : Record) (first : ℕ) (d : Date) → dateOf r first ≡ dated.Given d → recordOf d ≡ recorded.Given r
-unfolding dateIn dayInYear
+unfolding dateIn
 record-back r first d e =
     let g = date-given r first d e in
     let u = g .2 in
-    let b = record-bounds r (u .in-range) in
-    let n = one first (r .«start_day») (r .leap) (g .0) (g .1) (b .start-day .0) (b .start-day .1) (b .leap) in
-    let day = between 1 (dayOfYear r) (yearLength (eqb (r .leap) 0)) (u .in-year) in
-    let f = month-found (months (eqb (r .leap) 0)) 1 (dayOfYear r) (day .0) (rw (months-sum (eqb (r .leap) 0)) (day .1)) in
-    let y = yearFrom span first (r .«start_day») (r .leap) in
-    rw (← g .3, f .is) (written-again r y (omega (arith, n .from)) (omega (arith, n .to)) (n .start-day) (n .leap-code) u f)
+    rw (← g .3) (from-date r (yearFrom span first (r .«start_day») (r .leap)) (found-kind r first (g .0) (g .1) u) u)

@@ -1,199 +1,126 @@
--- The next minute of a date's record is the record of the date's next minute, refusals too: a step of the date moves the
--- day of the year by one, or to 1 January of the next year.
+-- The next minute of a date's record is the record of the date's next minute: the day moves by one, and with it the weekday, then the week,
+-- then the coded year.
 -- Assumes nothing.
-use Prim.Native.Nat.{ℕ, suc, _+_, _-_, _%_, _≤_, _<_}
+use Prim.Native.Nat.{ℕ, _+_, _*_, _-_, _/_, _%_, _≤_, _<_}
 use native.Mathlib.Omega.{arith}
-use mathlib.Core.Path.{_≡_, sym, ap, _∙_}
-use mathlib.Core.Bool.{Bool}
+use mathlib.Core.Path.{_≡_, refl, sym, ap, _∙_}
 use mathlib.Core.Logic.{⊎-elim}
 use borrow.Author.Tests.{lt-ltb, le-ltb}
-use Rattle.refusal.specs.declared.Refusal.the-variants.{NotInYear}
 use Rattle.record.specs.declared.Record.{Record}
-use Rattle.record.specs.declared.Recorded.the-variants.{Given, Refused}
+use Rattle.record.specs.declared.Recorded.the-variants.{Given}
 use Rattle.record.proofs.Tests.{le-or-lt}
-use Rattle.record.proofs.Bounds.{Time}
 use Rattle.calendar.specs.declared.Date.{Date}
 use Rattle.calendar.specs.declared.Dated.the-variants as dated
-use Rattle.calendar.specs.Years.{lastYear, leapYear, yearLength, startDay, leapCode}
-use Rattle.calendar.specs.Days.{months, monthLength, sumOf, weekOf, weekdayOf}
-use Rattle.calendar.specs.Dates.{newDate, dateOf, dayOfDate, recordAt, recordOf}
-use Rattle.calendar.specs.NextMinute.{atTime, midnight, nextWeekday, nextDay, goOn, nextAfter, nextMinuteOf, nextDayOfDate, nextOfDate}
-use Rattle.calendar.proofs.Years.{start-next, start-range}
-use Rattle.calendar.proofs.Weeks.{same-week, next-week, first-day}
-use Rattle.calendar.proofs.Months.{sum-suc, months-sum, month-least}
-use Rattle.calendar.proofs.Bounds.{day-bounds}
-use Rattle.calendar.proofs.Answers.{InCalendar, usable-is, record-is, record-none, record-given}
-use Rattle.calendar.proofs.RoundTrip.{day-kept, kind-kept, recorded-usable, record-back}
+use Rattle.calendar.specs.Years.{lastYear, firstCivilYear, leapYear, startDay, leapCode}
+use Rattle.calendar.specs.Weeks.{weekOne, weeksOf}
+use Rattle.calendar.specs.Dates.{dateOf, dayOfDate, codedYear, recordAt, recordOf}
+use Rattle.calendar.specs.NextMinute.{midnight, nextDay, goOn, nextAfter, nextMinuteOf, nextDayOfDate, nextOfDate}
+use Rattle.calendar.proofs.Choice.{in-each-case}
+use Rattle.calendar.proofs.Years.{leap-four, start-next}
+use Rattle.calendar.proofs.Weeks.{weeks-range, one-after, one-rises}
+use Rattle.calendar.proofs.Around.{ordered}
+use Rattle.calendar.proofs.Bounds.{Bounds}
+use Rattle.calendar.proofs.CodedYear.{coded-holds, record-on}
+use Rattle.calendar.proofs.Answers.{InCalendar, civil, usable-is, record-is, record-given}
+use Rattle.calendar.proofs.RoundTrip.{day-in-year, since-range, recorded-usable, record-back}
+use Rattle.calendar.proofs.NextDay.{Midnight, midnight-after, minute-after}
 
-module _ (d : Date) (c : InCalendar d) (w : recordAt d .week ≤ 53) where
+-- ---- the day goes on
+
+module _ (d : Date) (c : InCalendar d) (e : Date) (m : Midnight d e) where
+  abbrev y : ℕ
+  y = codedYear d
+
+  -- the days since the Monday of week 1, and the weeks of the year
   abbrev N : ℕ
-  N = dayOfDate d
+  N = dayOfDate d - weekOne y
 
-  abbrev S : ℕ
-  S = startDay (d .year)
+  abbrev W : ℕ
+  W = weeksOf (leapYear y) (startDay y)
 
-  -- ---- the next day of the year
+  next-one : weekOne (y + 1) ≡ weekOne y + 7 * W
+  next-one = one-after y (omega (arith, c .from))
 
-  module _ (m n : ℕ) (c′ : InCalendar (newDate (d .year) m n 0 0 (d .offset))) (next : dayOfDate (newDate (d .year) m n 0 0 (d .offset)) ≡ N + 1) where
-    abbrev to : Date
-    to = newDate (d .year) m n 0 0 (d .offset)
+  -- so many days after the Monday of week 1 of a coded year
+  goes :
+      (coded since week weekday : ℕ) →
+      dayOfDate e ≡ weekOne coded + since →
+      weekOne coded + since < weekOne (coded + 1) →
+      since / 7 + 1 ≡ week →
+      since % 7 + 1 ≡ weekday →
+      midnight (leapCode coded) (startDay coded) week weekday (d .offset) ≡ recordAt e
+  goes coded since week weekday h k v w =
+      sym (record-on e (m .after .from) (m .after .bounds) coded since h k ∙ rw (v, w, m .hour, m .minute, m .offset))
 
-    module _ (k v : ℕ) (e : (weekOf S (N + 1) ≡ k) × (weekdayOf S (N + 1) ≡ v)) where
-      moved : recordAt to ≡ midnight (leapCode (d .year)) S k v (d .offset)
-      unfolding recordAt
-      moved = rw (next, e .0, e .1)
+  since-on : dayOfDate e ≡ weekOne y + (N + 1)
+  since-on = omega (arith, m .after .day, day-in-year d c .from)
 
-      goes : k ≤ 53 → Given (midnight (leapCode (d .year)) S k v (d .offset)) ≡ recordOf to
-      goes h = sym (record-is to c′ (rw moved h) ∙ ap Given moved)
+  weekday-on : N % 7 + 1 < 7 → midnight (leapCode y) (startDay y) (N / 7 + 1) (N % 7 + 1 + 1) (d .offset) ≡ recordAt e
+  weekday-on h = goes y (N + 1) _ _ since-on (omega (arith, next-one, since-range d c)) (omega arith) (omega arith)
 
-      stops : 53 < k → Refused NotInYear ≡ recordOf to
-      stops h = sym (record-none to c′ (rw moved h))
+  week-on : 7 ≤ N % 7 + 1 → N / 7 + 1 < W → midnight (leapCode y) (startDay y) (N / 7 + 1 + 1) 1 (d .offset) ≡ recordAt e
+  week-on h k = goes y (N + 1) _ _ since-on (omega (arith, next-one)) (omega arith) (omega arith)
 
-    week-on : nextWeekday (recordAt d) ≡ recordOf to
-    unfolding nextWeekday recordAt
-    week-on =
-        let s = start-range (d .year) in
-        let b = day-bounds d (c .bounds) in
-        let k = weekOf S N in
-        let v = weekdayOf S N in
-        ⊎-elim
-        (λ h.
-        let e = next-week S N (s .0) (b .0) h in
-        rw (le-ltb v 7 h)
-        (⊎-elim
-        (λ l. rw (le-ltb k 53 l) (stops (k + 1) 1 e (omega arith)))
-        (λ l. rw (lt-ltb k 53 l) (goes (k + 1) 1 e (omega arith)))
-        (le-or-lt 53 k)))
-        (λ h. rw (lt-ltb v 7 h) (goes k (v + 1) (same-week S N (s .0) (b .0) h) w))
-        (le-or-lt 7 v)
+  year-on : 7 ≤ N % 7 + 1 → W ≤ N / 7 + 1 → midnight (leapCode (y + 1)) (startDay (y + 1)) 1 1 (d .offset) ≡ recordAt e
+  year-on h k =
+      let after = one-after (y + 1) (omega (arith, c .from)) in
+      let weeks = weeks-range (leapYear (y + 1)) (startDay (y + 1)) .0 in
+      goes (y + 1) 0 _ _ (omega (arith, since-on, next-one, since-range d c)) (omega (arith, after, weeks)) refl refl
 
-    day-on : nextDay (recordAt d) ≡ recordOf to
-    unfolding nextDay recordAt
-    day-on =
-        let h : N < yearLength (leapYear (d .year)) = omega (arith, day-bounds to (c′ .bounds)) in
-        rw (day-kept d c, ← kind-kept d c, lt-ltb N (yearLength (leapYear (d .year))) h) week-on
+  pub day-on : nextDay (recordAt d) ≡ recordAt e
+  unfolding nextDay recordAt
+  day-on =
+      let code : leapCode (y + 1) ≡ (leapCode y + 1) % 4 = omega arith in
+      rw (← leap-four y (c .from) (c .to), ← start-next y (omega (arith, c .from)), ← code)
+      (in-each-case (λ r. r ≡ recordAt e) (N % 7 + 1) 7 (N / 7 + 1) W weekday-on week-on year-on)
 
-  -- ---- 1 January of the next year
+-- ---- the minute goes on
 
-  abbrev to-year : Date
-  to-year = newDate (d .year + 1) 1 1 0 0 (d .offset)
-
-  year-on : InCalendar to-year → N ≡ yearLength (leapYear (d .year)) → nextDay (recordAt d) ≡ recordOf to-year
-  unfolding nextDay recordAt sumOf
-  year-on c′ e =
-      let s = startDay (d .year + 1) in
-      let t = start-range (d .year + 1) in
-      let f = first-day s (t .0) (t .1) in
-      let same : recordAt to-year ≡ midnight (leapCode (d .year + 1)) s 1 s (d .offset) = rw (f .0, f .1) in
-      let code : leapCode (d .year + 1) ≡ (leapCode (d .year) + 1) % 4 = omega arith in
-      let full = yearLength (leapYear (d .year)) in
-      rw (day-kept d c, ← kind-kept d c, e, le-ltb full full (omega arith), ← start-next (d .year) (c .from), ← code)
-      (sym (record-is to-year c′ (rw (f .0) (omega arith)) ∙ ap Given same))
-
-  -- ---- the day goes on
-
-  midnight-in : Time 0 0 (d .offset)
-  midnight-in = record { to-hour = omega arith; to-minute = omega arith; offset-in = c .bounds .time .offset-in }
-
-  abbrev L : Bool
-  L = leapYear (d .year)
-
-  month-whole : (i : ℕ) → suc (d .month - 1) ≡ i → sumOf i (months L) ≡ sumOf (d .month - 1) (months L) + monthLength L (d .month)
-  month-whole i e = ap (λ (i : ℕ). sumOf i (months L)) (sym e) ∙ sum-suc (d .month - 1) (months L)
-
-  in-month : d .day < monthLength L (d .month) → nextDay (recordAt d) ≡ recordOf (newDate (d .year) (d .month) (d .day + 1) 0 0 (d .offset))
-  in-month h =
-      day-on (d .month) (d .day + 1)
-      (record { from = c .from; to = c .to; bounds = record { month = c .bounds .month; day = (omega arith, omega arith); time = midnight-in } })
-      (omega arith)
-
-  next-month : monthLength L (d .month) ≤ d .day → d .month < 12 → nextDay (recordAt d) ≡ recordOf (newDate (d .year) (d .month + 1) 1 0 0 (d .offset))
-  next-month h k =
-      let m = c .bounds .month in
-      let whole = month-whole (d .month + 1 - 1) (omega arith) in
-      let least = month-least L (d .month + 1) (omega arith) (omega arith) in
-      day-on (d .month + 1) 1
-      (record {
-        from = c .from;
-        to = c .to;
-        bounds = record { month = (omega arith, omega arith); day = (omega arith, omega (arith, least)); time = midnight-in };
-      })
-      (omega (arith, c .bounds .day .1))
-
-  next-year : monthLength L (d .month) ≤ d .day → 12 ≤ d .month → d .year + 1 ≤ lastYear → nextDay (recordAt d) ≡ recordOf to-year
-  next-year h k y =
-      let last : d .month ≡ 12 = omega (arith, c .bounds .month) in
-      let whole = month-whole 12 (omega arith) in
-      let end : N ≡ yearLength L = omega (arith, months-sum L, c .bounds .day .1) in
-      year-on
-      (record {
-        from = omega (arith, c .from);
-        to = y;
-        bounds = record { month = (omega arith, omega arith); day = (omega arith, omega arith); time = midnight-in };
-      })
-      end
-
-  date-on : nextDayOfDate d .year ≤ lastYear → nextDay (recordAt d) ≡ recordOf (nextDayOfDate d)
-  unfolding nextDayOfDate
-  date-on h =
-      let length = monthLength L (d .month) in
+module _ (d : Date) (c : InCalendar d) where
+  pub time-on : goOn (recordAt d) ≡ recordAt (nextOfDate d)
+  unfolding goOn nextOfDate recordAt codedYear
+  time-on =
       ⊎-elim
       (λ l.
       ⊎-elim
-      (λ k.
-      let day = le-ltb (d .day) length l in
-      let month = le-ltb (d .month) 12 k in
-      rw (day, month) (next-year l k (rw (day, month) at h)))
-      (λ k. rw (le-ltb (d .day) length l, lt-ltb (d .month) 12 k) (next-month l k))
-      (le-or-lt 12 (d .month)))
-      (λ l. rw (lt-ltb (d .day) length l) (in-month l))
-      (le-or-lt length (d .day))
-
-  -- ---- the minute and the hour go on
-
-  same-day :
-      (hour minute : ℕ) →
-      hour ≤ 23 →
-      minute ≤ 59 →
-      Given (atTime hour minute (recordAt d)) ≡ recordOf (newDate (d .year) (d .month) (d .day) hour minute (d .offset))
-  unfolding recordAt
-  same-day hour minute h k =
-      sym
-      (record-is (newDate (d .year) (d .month) (d .day) hour minute (d .offset))
-      (record {
-        from = c .from;
-        to = c .to;
-        bounds = record { month = c .bounds .month; day = c .bounds .day; time = record { to-hour = h; to-minute = k; offset-in = c .bounds .time .offset-in } };
-      })
-      w)
-
-  time-on : nextOfDate d .year ≤ lastYear → goOn (recordAt d) ≡ recordOf (nextOfDate d)
-  unfolding goOn nextOfDate recordAt
-  time-on h =
-      ⊎-elim
-      (λ l.
-      ⊎-elim
-      (λ k. rw (le-ltb (d .minute) 59 l, le-ltb (d .hour) 23 k) (date-on (rw (le-ltb (d .minute) 59 l, le-ltb (d .hour) 23 k) at h)))
-      (λ k. rw (le-ltb (d .minute) 59 l, lt-ltb (d .hour) 23 k) (same-day (d .hour + 1) 0 (omega arith) (omega arith)))
+      (λ k. rw (le-ltb (d .minute) 59 l, le-ltb (d .hour) 23 k) (day-on d c (nextDayOfDate d) (midnight-after d (civil d c .0) (c .bounds))))
+      (λ k. rw (le-ltb (d .minute) 59 l, lt-ltb (d .hour) 23 k))
       (le-or-lt 23 (d .hour)))
-      (λ l. rw (lt-ltb (d .minute) 59 l) (same-day (d .hour) (d .minute + 1) (c .bounds .time .to-hour) (omega arith)))
+      (λ l. rw (lt-ltb (d .minute) 59 l))
       (le-or-lt 59 (d .minute))
 
--- where the next minute is still in the calendar, the two answers are one
+-- the coded year goes on with the day
+pub coded-on : (d : Date) → firstCivilYear ≤ d .year → Bounds d → codedYear d ≤ codedYear (nextOfDate d)
+coded-on d a b =
+    let next = minute-after d a b .1 in
+    ordered weekOne one-rises (dayOfDate d) (dayOfDate (nextOfDate d)) _ _
+    (coded-holds d a b)
+    (coded-holds (nextOfDate d) (next .from) (next .bounds))
+    (omega (arith, next .day))
+
+-- where its year can be coded, the next minute is in the calendar
+pub next-in : (d : Date) → InCalendar d → codedYear (nextOfDate d) ≤ lastYear → InCalendar (nextOfDate d)
+next-in d c h =
+    let a = civil d c .0 in
+    let b = c .bounds in
+    record { from = omega (arith, c .from, coded-on d a b); to = h; bounds = minute-after d a b .1 .bounds }
+
+-- the two answers are one
 pub next-of-date :
     (d : Date) (r : Record) →
     recordOf d ≡ Given r →
-    nextOfDate d .year ≤ lastYear →
+    codedYear (nextOfDate d) ≤ lastYear →
     nextMinuteOf r ≡ recordOf (nextOfDate d)
 unfolding nextMinuteOf nextAfter
 next-of-date d r e h =
     let g = record-given d r e in
-    rw (← g .2, usable-is (recordAt d) (recorded-usable d (g .0) (g .1))) (time-on d (g .0) (g .1) h)
+    rw (← g .1, usable-is (recordAt d) (recorded-usable d (g .0)))
+    (ap Given (time-on d (g .0)) ∙ sym (record-is (nextOfDate d) (next-in d (g .0) h)))
 
 -- the same for a record and its date in any 28 years
 pub next-of-record :
     (r : Record) (first : ℕ) (d : Date) →
     dateOf r first ≡ dated.Given d →
-    nextOfDate d .year ≤ lastYear →
+    codedYear (nextOfDate d) ≤ lastYear →
     nextMinuteOf r ≡ recordOf (nextOfDate d)
 next-of-record r first d e = next-of-date d r (record-back r first d e)

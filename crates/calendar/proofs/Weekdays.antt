@@ -1,22 +1,31 @@
--- The weekday in the record of a date is the one that a count of days from Tuesday, 1 January 1901 gives.
+-- The weekday in the record of a date is the one that a count of days gives.
 -- Assumes nothing.
-use Prim.Native.Nat.{ℕ, _+_, _-_}
+use Prim.Native.Nat.{ℕ, _+_}
 use native.Mathlib.Omega.{arith}
 use mathlib.Core.Path.{_≡_, sym, ap, _∙_}
+use lib.IntN.{pos}
 use Rattle.record.specs.declared.Record.{Record}
 use Rattle.record.specs.declared.Recorded.the-variants.{Given}
 use Rattle.calendar.specs.declared.Date.{Date}
-use Rattle.calendar.specs.Years.{firstYear, daysOfYears, weekdayAfter, startDay}
-use Rattle.calendar.specs.Dates.{dayOfDate, recordAt, recordOf}
-use Rattle.calendar.proofs.Bounds.{day-bounds}
-use Rattle.calendar.proofs.Answers.{record-given}
+use Rattle.calendar.specs.Years.{leapYear, daysOfYears, weekdayAfter}
+use Rattle.calendar.specs.Days.{sumOf}
+use Rattle.calendar.specs.Dates.{newDate, dayOfDate, recordAt, recordOf}
+use Rattle.calendar.proofs.CodedYear.{coded-holds}
+use Rattle.calendar.proofs.Answers.{civil, record-given}
 
--- the days from 1 January 1901 to the date
-abbrev pub dayCount : Date → ℕ
-dayCount d = daysOfYears (d .year - firstYear) + (dayOfDate d - 1)
-
-pub weekday-counted : (d : Date) (r : Record) → recordOf d ≡ Given r → r .weekday ≡ weekdayAfter (dayCount d) 2
-unfolding recordAt startDay
+-- from Monday, 1 January 1900
+pub weekday-counted : (d : Date) (r : Record) → recordOf d ≡ Given r → r .weekday ≡ weekdayAfter (dayOfDate d) 1
+unfolding recordAt
 weekday-counted d r e =
     let g = record-given d r e in
-    sym (ap (λ (w : Record). w .weekday) (g .2)) ∙ omega (arith, day-bounds d (g .0 .bounds))
+    let h = coded-holds d (civil d (g .0) .0) (g .0 .bounds) in
+    sym (ap (λ (w : Record). w .weekday) (g .1)) ∙ omega (arith, h .from)
+
+-- and from Tuesday, 1 January 1901
+pub counted-from-1901 :
+    (d : Date) (r : Record) (days : ℕ) →
+    recordOf d ≡ Given r →
+    dayOfDate d ≡ dayOfDate (newDate 1901 1 1 0 0 (pos 0)) + days →
+    r .weekday ≡ weekdayAfter days 2
+unfolding daysOfYears leapYear sumOf
+counted-from-1901 d r days e h = weekday-counted d r e ∙ omega (arith, h)

@@ -1,6 +1,7 @@
--- From records to dates and back (01, "The calendar", and "Numbers given when something is refused").
+-- From records to dates and back (01, "The calendar", and "Numbers given when something is refused"; 02, No. 2).
 -- Assumes nothing.
-use Prim.Native.Nat.{ℕ}
+use Prim.Native.Nat.{ℕ, _+_, _*_, _-_, _/_, _%_, _≤_}
+use mathlib.Core.Path.{_≡_}
 use mathlib.Core.Bool.{Bool, cond, _&&_}
 use lib.Dec.{eqb, leb}
 use lib.IntN.{ℤ}
@@ -13,26 +14,60 @@ use Rattle.calendar.specs.declared.Date.{Date}
 use Rattle.calendar.specs.declared.month.MonthDay.{MonthDay}
 use Rattle.calendar.specs.declared.Dated.{Dated}
 use Rattle.calendar.specs.declared.Dated.the-variants as dated
-use Rattle.calendar.specs.Years.{firstYear, lastFirstYear, lastYear, span, leapYear, startDay, leapCode, yearFrom}
-use Rattle.calendar.specs.Days.{months, monthLength, dayOfMonth, monthFrom, weekOf, weekdayOf, dayOfYear, dayInYear}
+use Rattle.calendar.specs.Years.{
+  firstYear,
+  lastFirstYear,
+  lastYear,
+  span,
+  firstCivilYear,
+  lastCivilYear,
+  leapYear,
+  newYear,
+  startDay,
+  leapCode,
+  yearFrom,
+}
+use Rattle.calendar.specs.Days.{months, monthLength, dayOfMonth, monthFrom}
+use Rattle.calendar.specs.Weeks.{weekOne, weeksOf, yearAround, civilYear}
 
 abbrev pub newDate : ℕ → ℕ → ℕ → ℕ → ℕ → ℤ → Date
 newDate year month day hour minute offset =
     record { year = year; month = month; day = day; hour = hour; minute = minute; offset = offset }
 
--- a usable record itself; a field out of range gets 6, then a day that is not in its year 7
+-- the weeks of the year that a record names: it is leap where the leap code is 0
+abbrev pub weeksIn : Record → ℕ
+weeksIn r = weeksOf (eqb (r .leap) 0) (r .«start_day»)
+
+-- a usable record itself; a field out of range gets 6, then week 53 in a year without one 7
 unfoldable pub usableOf : Record → Recorded
-usableOf r = cond (inRange r) (cond (dayInYear r) (recorded.Given r) (recorded.Refused NotInYear)) (recorded.Refused OutOfRange)
+usableOf r = cond (inRange r) (cond (leb (r .week) (weeksIn r)) (recorded.Given r) (recorded.Refused NotInYear)) (recorded.Refused OutOfRange)
 
 -- ---- the date of a record
 
--- a month and a day of it, in a year, with the record's hour, minute and offset
-abbrev pub dateOn : ℕ → MonthDay → Record → Date
-dateOn year on r = newDate year (on .month) (on .day) (r .hour) (r .minute) (r .offset)
+-- a year that can be coded, with the start day and the leap code of a record
+pub record OfKind (coded : ℕ) (r : Record) : Type 0 where
+  pub from : firstYear ≤ coded
+  pub to : coded ≤ lastYear
+  pub start-day : startDay coded ≡ r .«start_day»
+  pub leap-code : leapCode coded ≡ r .leap
 
--- the year is the one of the 28 that has the record's start day and leap code
+-- the day that a record names in a coded year
+abbrev pub dayOfRecord : ℕ → Record → ℕ
+dayOfRecord coded r = weekOne coded + 7 * (r .week - 1) + (r .weekday - 1)
+
+-- a month and a day of it in a civil year, with the record's hour, minute and offset
+abbrev pub dateAt : ℕ → MonthDay → Record → Date
+dateAt year on r = newDate year (on .month) (on .day) (r .hour) (r .minute) (r .offset)
+
+abbrev pub dateOn : ℕ → ℕ → Record → Date
+dateOn year day r = dateAt year (monthFrom (months (leapYear year)) 1 (day - newYear year + 1)) r
+
+abbrev pub dateFrom : ℕ → Record → Date
+dateFrom coded r = dateOn (civilYear coded (dayOfRecord coded r)) (dayOfRecord coded r) r
+
+-- the coded year is the one of the 28 that has the record's start day and leap code
 unfoldable pub dateIn : ℕ → Record → Date
-dateIn first r = dateOn (yearFrom span first (r .«start_day») (r .leap)) (monthFrom (months (eqb (r .leap) 0)) 1 (dayOfYear r)) r
+dateIn first r = dateFrom (yearFrom span first (r .«start_day») (r .leap)) r
 
 unfoldable pub dateAfter : ℕ → Recorded → Dated
 dateAfter first (recorded.Given r) = dated.Given (dateIn first r)
@@ -50,31 +85,35 @@ dateInRange d =
     within 1 (d .month) 12
     && (within 1 (d .day) (monthLength (leapYear (d .year)) (d .month)) && timeInRange (d .hour) (d .minute) (d .offset))
 
--- the day of the year
+-- the day of a date
 abbrev pub dayOfDate : Date → ℕ
-dayOfDate d = dayOfMonth (leapYear (d .year)) (d .month) (d .day)
+dayOfDate d = newYear (d .year) + (dayOfMonth (leapYear (d .year)) (d .month) (d .day) - 1)
 
--- day n of a year with this start day
+-- the coded year of a date is the week's year
+unfoldable pub codedYear : Date → ℕ
+codedYear d = yearAround (d .year) (weekOne (d .year)) (weekOne (d .year + 1)) (dayOfDate d)
+
+-- the record of a date so many days after the Monday of week 1 of a coded year
 abbrev pub recordOn : ℕ → ℕ → Date → Record
-recordOn start n d =
+recordOn coded since d =
     record {
-      leap = leapCode (d .year);
-      «start_day» = start;
-      week = weekOf start n;
-      weekday = weekdayOf start n;
+      leap = leapCode coded;
+      «start_day» = startDay coded;
+      week = since / 7 + 1;
+      weekday = since % 7 + 1;
       hour = d .hour;
       minute = d .minute;
       offset = d .offset;
     }
 
 unfoldable pub recordAt : Date → Record
-recordAt d = recordOn (startDay (d .year)) (dayOfDate d) d
+recordAt d = recordOn (codedYear d) (dayOfDate d - weekOne (codedYear d)) d
 
--- a year outside the calendar gets 8, then what is out of range 6, then week 54 gets 7
+-- a civil year outside 1900 to 2100 gets 8, then what is out of range 6, then a coded year outside 1901 to 2099 8
 unfoldable pub recordOf : Date → Recorded
 recordOf d =
-    cond (within firstYear (d .year) lastYear)
+    cond (within firstCivilYear (d .year) lastCivilYear)
     (cond (dateInRange d)
-    (cond (leb (recordAt d .week) 53) (recorded.Given (recordAt d)) (recorded.Refused NotInYear))
+    (cond (within firstYear (codedYear d) lastYear) (recorded.Given (recordAt d)) (recorded.Refused WrongYear))
     (recorded.Refused OutOfRange))
     (recorded.Refused WrongYear)

@@ -1,14 +1,11 @@
--- The days of a year, by month and day and by week and weekday (01, "The calendar").
+-- The days of a year by month and day (01, "The calendar").
 -- Assumes nothing.
-use Prim.Native.Nat.{ℕ, zero, suc, _+_, _*_, _-_, _/_, _%_}
+use Prim.Native.Nat.{ℕ, zero, suc, _+_, _-_}
 use mathlib.Core.Bool.{Bool, cond}
 use mathlib.Core.List.{List, [], _∷_}
-use lib.Dec.{eqb, leb}
+use lib.Dec.{leb}
 use lib.ListN.{getD}
-use Rattle.record.specs.declared.Record.{Record}
-use Rattle.record.specs.Ranges.{within}
 use Rattle.calendar.specs.declared.month.MonthDay.{MonthDay}
-use Rattle.calendar.specs.Years.{yearLength}
 
 -- the lengths of the months, January first
 abbrev pub months : Bool → List ℕ
@@ -35,22 +32,3 @@ monthDay month day = record { month = month; day = day }
 unfoldable pub monthFrom : List ℕ → ℕ → ℕ → MonthDay
 monthFrom [] m d = monthDay 0 0
 monthFrom (n ∷ ns) m d = cond (leb d n) (monthDay m d) (monthFrom ns (m + 1) (d - n))
-
--- Week 1 is the Monday-to-Sunday week that holds 1 January: its Monday lies start day - 1 days before 1 January.
--- So many days after that Monday is day d of the year
-abbrev pub sinceMonday : ℕ → ℕ → ℕ
-sinceMonday start d = (start - 1) + (d - 1)
-
-abbrev pub weekOf : ℕ → ℕ → ℕ
-weekOf start d = sinceMonday start d / 7 + 1
-
-abbrev pub weekdayOf : ℕ → ℕ → ℕ
-weekdayOf start d = sinceMonday start d % 7 + 1
-
--- the day of the year that a record names: 7(week - 1) + weekday - start day + 1, and 0 for a day of week 1 before 1 January
-unfoldable pub dayOfYear : Record → ℕ
-dayOfYear r = 7 * (r .week - 1) + r .weekday + 1 - r .«start_day»
-
--- the year has that day: it has 366 where the leap code is 0, else 365
-unfoldable pub dayInYear : Record → Bool
-dayInYear r = within 1 (dayOfYear r) (yearLength (eqb (r .leap) 0))

@@ -1,6 +1,7 @@
--- In reading order: years, the days in them, the calls, the next minute, minutes later, and what the paper gives for each answer.
+-- In reading order: years, their days and weeks, the calls, the next minute, minutes later, and what the paper gives for each answer.
 pub mod Years
 pub mod Days
+pub mod Weeks
 pub mod Dates
 pub mod NextMinute
 pub mod MinutesLater

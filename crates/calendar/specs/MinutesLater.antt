@@ -12,7 +12,7 @@ abbrev pub thenNext : Recorded → Recorded
 thenNext (Given r) = nextMinuteOf r
 thenNext (Refused why) = Refused why
 
--- so many minutes later: the next minute taken that often; a step that does not exist is refused, and so are all behind it
+-- so many minutes later: the next minute taken that often
 unfoldable pub minutesLater : ℕ → Record → Recorded
 minutesLater zero r = Given r
 minutesLater (suc k) r = thenNext (minutesLater k r)

@@ -1,10 +1,11 @@
--- Years: which are leap, and the kind of year that a record carries (01, "The time record" and "The calendar").
+-- Years: which are leap, when they begin, and the kind of year that a record carries (01, "The time record" and "The calendar";
+-- 02, No. 2).
 -- Assumes nothing.
 use Prim.Native.Nat.{ℕ, zero, suc, _+_, _-_, _%_}
 use mathlib.Core.Bool.{Bool, cond, _&&_}
 use lib.Dec.{eqb}
 
--- the calendar's fixed numbers: its years are 1901 to 2099, and a record names one of 28 that begin in 1901 to 2072
+-- the calendar's fixed numbers: years from 1901 to 2099 are coded, and a record names one of 28 that begin in 1901 to 2072
 abbrev pub firstYear : ℕ
 firstYear = 1901
 
@@ -17,6 +18,13 @@ lastYear = 2099
 abbrev pub span : ℕ
 span = 28
 
+-- dates lie in civil years from 1900 to 2100: a week may begin before its year and end after it
+abbrev pub firstCivilYear : ℕ
+firstCivilYear = 1900
+
+abbrev pub lastCivilYear : ℕ
+lastCivilYear = 2100
+
 -- the Gregorian rule: a full century is leap where 400 divides it, and any other year where 4 does
 unfoldable pub leapYear : ℕ → Bool
 leapYear y = cond (eqb (y % 100) 0) (eqb (y % 400) 0) (eqb (y % 4) 0)
@@ -25,18 +33,22 @@ leapYear y = cond (eqb (y % 100) 0) (eqb (y % 400) 0) (eqb (y % 4) 0)
 abbrev pub yearLength : Bool → ℕ
 yearLength leap = cond leap 366 365
 
--- the days from 1 January 1901 to the 1 January n years later, counted one year after the other
+-- the days from 1 January 1900 to the 1 January n years later, counted one year after the other
 unfoldable pub daysOfYears : ℕ → ℕ
 daysOfYears zero = 0
-daysOfYears (suc n) = daysOfYears n + yearLength (leapYear (firstYear + n))
+daysOfYears (suc n) = daysOfYears n + yearLength (leapYear (firstCivilYear + n))
+
+-- 1 January of a year. A day is a number: how many days it comes after 1 January 1900, which was a Monday
+abbrev pub newYear : ℕ → ℕ
+newYear y = daysOfYears (y - firstCivilYear)
 
 -- the weekday n days after a weekday, of 1 (Monday) to 7
 abbrev pub weekdayAfter : ℕ → ℕ → ℕ
 weekdayAfter n weekday = (weekday - 1 + n) % 7 + 1
 
--- the weekday of 1 January; that of 1901 was a Tuesday
+-- the weekday of 1 January
 unfoldable pub startDay : ℕ → ℕ
-startDay y = weekdayAfter (daysOfYears (y - firstYear)) 2
+startDay y = weekdayAfter (newYear y) 1
 
 -- 0 in a leap year, 1 in the year after, 3 in the year before: 1901 counts as a year after, and 2099 as one before
 abbrev pub leapCode : ℕ → ℕ

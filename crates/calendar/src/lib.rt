@@ -2,9 +2,10 @@
 ghost use mathlib.Core.Path.{_≡_};
 ghost use mathlib.Core.Bool.{true};
 ghost use Prim.Native.Nat.{_≤_};
+ghost use Rattle.record.specs.declared.Recorded.the-variants.{Given};
 ghost use Rattle.record.specs.Ranges.{within, inRange};
-ghost use Rattle.calendar.specs.Years.{firstYear, lastFirstYear, lastYear};
-ghost use Rattle.calendar.specs.Dates.{newDate, usableOf, dateIn, dateOf, dateInRange, dayOfDate, recordOf};
+ghost use Rattle.calendar.specs.Years.{firstYear, lastFirstYear, lastYear, firstCivilYear, lastCivilYear};
+ghost use Rattle.calendar.specs.Dates.{newDate, usableOf, OfKind, dayOfRecord, dateFrom, dateIn, dateOf, dateInRange, dayOfDate, codedYear, recordOf};
 ghost use Rattle.calendar.specs.NextMinute.{nextMinuteOf};
 ghost use Rattle.calendar.specs.Given.{zeroDate};
 
@@ -20,9 +21,12 @@ use month::month_length;
 use record::Record;
 use record::Recorded;
 use refusal::Refusal;
-use week::day_in_year;
-use week::day_of_year;
+use week::civil_year;
+use week::week_one;
+use week::weeks_of;
+use week::year_around;
 use year::is_leap;
+use year::new_year;
 use year::start_day_of;
 use year::year_of;
 
@@ -44,7 +48,7 @@ pub enum Dated {
 }
 
 impl Date {
-    // The years of the calendar, the last year that may be the first of a span, and the years of a span.
+    // The years that are coded, the last that may be the first of a span, and the years of a span.
     pub const FIRST_YEAR: u16 = 1901;
 
     pub const LAST_FIRST_YEAR: u16 = 2072;
@@ -52,6 +56,11 @@ impl Date {
     pub const LAST_YEAR: u16 = 2099;
 
     pub const SPAN: u16 = 28;
+
+    // The civil years that dates can lie in.
+    pub const FIRST_CIVIL_YEAR: u16 = 1900;
+
+    pub const LAST_CIVIL_YEAR: u16 = 2100;
 
     pub fn new(year: u16, month: u8, day: u8, hour: u8, minute: u8, offset: i8) -> Date
         ensures { λ r. ⌜ r ≡ newDate year month day hour minute offset ⌝ }
@@ -73,13 +82,14 @@ impl Date {
         Date::new(0, 0, 0, 0, 0, 0)
     }
 
-    // The date of a usable record, in the one of the 28 years that has the record's start day and leap code.
-    fn in_span(first_year: u16, record: Record) -> Date
-        requires { ⌜ (firstYear ≤ «first_year») × («first_year» ≤ lastFirstYear) × (inRange «record» ≡ true) ⌝ }
-        ensures { λ r. ⌜ r ≡ dateIn «first_year» «record» ⌝ }
+    // The date of a usable record in a coded year of its kind.
+    fn in_year(coded: u16, record: Record) -> Date
+        requires { ⌜ OfKind coded «record» × (usableOf «record» ≡ Given «record») ⌝ }
+        ensures { λ r. ⌜ r ≡ dateFrom coded «record» ⌝ }
     {
-        let year = year_of(first_year, record.start_day, record.leap);
-        let on = month_day(day_of_year(record), record.leap == 0);
+        let day = day_of_record(coded, record);
+        let year = civil_year(coded, day);
+        let on = month_day(day - new_year(year) + 1, is_leap(year));
         Date::new(
             year,
             on.month,
@@ -90,27 +100,30 @@ impl Date {
         )
     }
 
+    // The date of a usable record, whose coded year is the one of the 28 that has the record's start day and leap code.
+    fn in_span(first_year: u16, record: Record) -> Date
+        requires { ⌜ (firstYear ≤ «first_year») × («first_year» ≤ lastFirstYear) × (usableOf «record» ≡ Given «record») ⌝ }
+        ensures { λ r. ⌜ r ≡ dateIn «first_year» «record» ⌝ }
+    {
+        let coded = year_of(first_year, record.start_day, record.leap);
+        Date::in_year(coded, record)
+    }
+
     // The year may be the first of the 28.
     pub fn may_be_first(year: u16) -> bool
         ensures { λ r. ⌜ r ≡ within firstYear year lastFirstYear ⌝ }
     {
         record::within(Date::FIRST_YEAR, year, Date::LAST_FIRST_YEAR)
     }
-
-    // The calendar has the year.
-    pub fn has_year(year: u16) -> bool
-        ensures { λ r. ⌜ r ≡ within firstYear year lastYear ⌝ }
-    {
-        record::within(Date::FIRST_YEAR, year, Date::LAST_YEAR)
-    }
 }
 
-// The record itself where its fields are in range and its day is in its year.
+// The record itself where its fields are in range and its year has the week.
 pub fn usable(record: Record) -> Recorded
     ensures { λ r. ⌜ r ≡ usableOf «record» ⌝ }
 {
     if record::in_range(record) {
-        if day_in_year(record) {
+        let weeks = weeks_of(record.leap == 0, record.start_day);
+        if record.week <= weeks {
             Recorded::Given(record)
         } else {
             Recorded::Refused(Refusal::NotInYear)
@@ -138,9 +151,9 @@ pub fn date_of_record(record: Record, first_year: u16) -> Dated
 pub fn record_of_date(date: Date) -> Recorded
     ensures { λ r. ⌜ r ≡ recordOf date ⌝ }
 {
-    let in_calendar = Date::has_year(date.year);
+    let in_civil_years = record::within(Date::FIRST_CIVIL_YEAR, date.year, Date::LAST_CIVIL_YEAR);
     let in_range = date_in_range(date);
-    if in_calendar {
+    if in_civil_years {
         if in_range {
             written(date)
         } else {
@@ -156,7 +169,7 @@ pub fn next_minute(record: Record) -> Recorded
     ensures { λ r. ⌜ r ≡ nextMinuteOf «record» ⌝ }
 {
     match usable(record) {
-        Recorded::Given(r) => go_on(r),
+        Recorded::Given(r) => Recorded::Given(go_on(r)),
         Recorded::Refused(why) => Recorded::Refused(why),
     }
 }
@@ -177,33 +190,52 @@ fn date_in_range(date: Date) -> bool
     }
 }
 
-// The record of a date of the calendar; there is none in week 54.
+// The record of a date of the civil years, where its week's year can be coded.
 fn written(date: Date) -> Recorded
-    requires { ⌜ (firstYear ≤ date .year) × (date .year ≤ lastYear) × (dateInRange date ≡ true) ⌝ }
+    requires { ⌜ (firstCivilYear ≤ date .year) × (date .year ≤ lastCivilYear) × (dateInRange date ≡ true) ⌝ }
     ensures { λ r. ⌜ r ≡ recordOf date ⌝ }
 {
     let day = day_of_date(date);
-    let start_day = start_day_of(date.year);
-    // Days after the Monday that begins week 1.
-    let since = (start_day as u16 - 1) + (day - 1);
-    if 53 < since / 7 + 1 {
-        return Recorded::Refused(Refusal::NotInYear);
+    let begin = week_one(date.year);
+    let next = week_one(date.year + 1);
+    let coded = year_around(date.year, begin, next, day);
+    if record::within(Date::FIRST_YEAR, coded, Date::LAST_YEAR) {
+        return Recorded::Given(record_in(coded, day, date));
     }
-    Recorded::Given(Record {
-        leap: (date.year % 4) as u8,
-        start_day: start_day,
+    Recorded::Refused(Refusal::WrongYear)
+}
+
+// The record of a date on a day of its coded year.
+fn record_in(coded: u16, day: u32, date: Date) -> Record
+    requires { ⌜ (firstYear ≤ coded) × (coded ≤ lastYear) × (dateInRange date ≡ true) × (coded ≡ codedYear date) × (day ≡ dayOfDate date) ⌝ }
+    ensures { λ r. ⌜ recordOf date ≡ Given r ⌝ }
+{
+    let since = day - week_one(coded);
+    Record {
+        leap: (coded % 4) as u8,
+        start_day: start_day_of(coded),
         week: (since / 7 + 1) as u8,
         weekday: (since % 7 + 1) as u8,
         hour: date.hour,
         minute: date.minute,
         offset: date.offset,
-    })
+    }
 }
 
-// The day of the year, from 1.
-fn day_of_date(date: Date) -> u16
-    requires { ⌜ dateInRange date ≡ true ⌝ }
+// The day that a record names in a coded year.
+fn day_of_record(coded: u16, record: Record) -> u32
+    requires { ⌜ (firstYear ≤ coded) × (coded ≤ lastYear) × (inRange «record» ≡ true) ⌝ }
+    ensures { λ r. ⌜ r ≡ dayOfRecord coded «record» ⌝ }
+{
+    let weeks = record.week as u32 - 1;
+    week_one(coded) + 7 * weeks + (record.weekday as u32 - 1)
+}
+
+// The day of a date.
+fn day_of_date(date: Date) -> u32
+    requires { ⌜ (firstCivilYear ≤ date .year) × (date .year ≤ lastCivilYear) × (dateInRange date ≡ true) ⌝ }
     ensures { λ r. ⌜ r ≡ dayOfDate date ⌝ }
 {
-    days_before(date.month, is_leap(date.year)) + date.day as u16
+    let days = days_before(date.month, is_leap(date.year)) + date.day as u16;
+    new_year(date.year) + (days - 1) as u32
 }

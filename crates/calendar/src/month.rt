@@ -38,13 +38,13 @@ pub fn days_before(month: u8, leap: bool) -> u16
 }
 
 // The month and the day of it of a day of the year; zeros where the year has no such day.
-pub fn month_day(day: u16, leap: bool) -> MonthDay
+pub fn month_day(day: u32, leap: bool) -> MonthDay
     ensures { λ r. ⌜ r ≡ monthFrom (months leap) 1 day ⌝ }
 {
     let mut left = day;
     let mut month: u8 = 1;
     while month <= 12 {
-        let length = month_length(month, leap) as u16;
+        let length = month_length(month, leap) as u32;
         if left <= length {
             return MonthDay {
                 month: month,

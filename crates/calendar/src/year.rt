@@ -1,7 +1,7 @@
-// Years: which are leap, where they start, and which has a given start day and leap code.
+// Years: which are leap, when they begin, and which has a given start day and leap code.
 ghost use mathlib.Core.Path.{_≡_};
-ghost use Prim.Native.Nat.{_≤_};
-ghost use Rattle.calendar.specs.Years.{firstYear, lastFirstYear, lastYear, span, leapYear, yearLength, startDay, yearFrom};
+ghost use Prim.Native.Nat.{_≤_, _+_};
+ghost use Rattle.calendar.specs.Years.{firstYear, lastFirstYear, firstCivilYear, lastCivilYear, span, leapYear, yearLength, newYear, startDay, yearFrom};
 use crate::Date;
 
 // The Gregorian rule.
@@ -20,13 +20,22 @@ pub fn year_length(leap: bool) -> u16
     if leap { 366 } else { 365 }
 }
 
-// A year moves the start day by one, a leap year by one more.
+// 1 January, in days after Monday, 1 January 1900: 365 for each year, and the leap days since.
+pub fn new_year(year: u16) -> u32
+    requires { ⌜ (firstCivilYear ≤ year) × (year ≤ lastCivilYear + 1) ⌝ }
+    ensures { λ r. ⌜ r ≡ newYear year ⌝ }
+{
+    let last = year as u32 - 1;
+    // 460 leap days came before 1900.
+    let leap_days = last / 4 + last / 400 - last / 100 - 460;
+    365 * (last - 1899) + leap_days
+}
+
 pub fn start_day_of(year: u16) -> u8
-    requires { ⌜ (firstYear ≤ year) × (year ≤ lastYear) ⌝ }
+    requires { ⌜ (firstCivilYear ≤ year) × (year ≤ lastCivilYear + 1) ⌝ }
     ensures { λ r. ⌜ r ≡ startDay year ⌝ }
 {
-    let years = year - Date::FIRST_YEAR;
-    ((years + years / 4 + 1) % 7 + 1) as u8
+    (new_year(year) % 7 + 1) as u8
 }
 
 // The one of the 28 years that has this start day and leap code.

@@ -17,10 +17,12 @@ use Rattle.record.specs.Fields.{wordOf}
 use Rattle.calendar.specs.declared.Date.{Date}
 use Rattle.calendar.specs.declared.Dated.the-variants as dated
 use Rattle.calendar.specs.Years.{span}
-use Rattle.calendar.specs.Dates.{dateOf}
+use Rattle.calendar.specs.Dates.{dateOf, codedYear}
 use Rattle.calendar.specs.MinutesLater.{minutesLater, minutesLaterOfDate}
-use Rattle.calendar.proofs.Answers.{Usable, usable-is}
+use Rattle.calendar.proofs.Answers.{Usable, usable-is, record-given}
 use Rattle.calendar.proofs.RoundTrip.{date-back}
+use Rattle.calendar.proofs.MinutesLater.{coded-later, later-of-date}
+use Rattle.calendar.proofs.GoesOn.{later-given}
 use Rattle.timekeeping.specs.Proper.{timeProper}
 use Rattle.timekeeping.specs.Times.{none, candidate, confirmed, noTime}
 use Rattle.locking.specs.declared.Blocks.{Blocks}
@@ -32,7 +34,7 @@ use Rattle.receiver.specs.Runs.{plus, ended, runFrom, runOf}
 use Rattle.receiver.proofs.Adding.{none-plus, plus-none, plus-assoc}
 use Rattle.receiver.proofs.Together.{run-is}
 use Rattle.journey.specs.Journey.{timeBlock, Other, Each, badRunAfter, LockHolds, countRead, countBlocks, Quiet, Missed, heard, Idle, holding, Leads, Writable, EveryJourney}
-use Rattle.journey.proofs.Worded.{date-usable, later-usable, years-on, later-recorded, has-word, word-fits}
+use Rattle.journey.proofs.Worded.{date-usable, has-word, word-fits}
 use Rattle.journey.proofs.Minutes.{first-block, other-blocks, gone, last-block}
 use Rattle.journey.proofs.Missed.{others-append, heard-others, heard-length, missed-hold}
 
@@ -84,7 +86,7 @@ module _ (kind : ℕ) (held : candidate ≤ kind) (known : kind ≤ confirmed) (
       ∙ gone kind held r others noBlocks 0 0 o l (omega arith) (omega arith)
       ∙ ap (λ (b : Blocks). ended 0 b 0 (nothingWaits (lockOf locked 0 (badRunAfter 0 others) noTime))) (none-plus (countBlocks others))
 
-  module _ (minutes : ℕ) (from : 1 ≤ minutes) (to : minutes ≤ 4) (n : Record) (e : minutesLater minutes r ≡ Given n) where
+  module _ (minutes : ℕ) (from : 1 ≤ minutes) (to : minutes ≤ 4) (n : Record) (e : minutesLater minutes r ≡ Given n) (v : Usable n) where
     confirms : (others : List (List ℕ)) → length others + 1 ≡ 30 * minutes → Each Other others → LockHolds 0 others
         → Leads (holding 0 kind r 0) (others ++ timeBlock n ∷ []) (holding 0 confirmed n 0)
     unfolding flatten
@@ -94,7 +96,7 @@ module _ (kind : ℕ) (held : candidate ≤ kind) (known : kind ≤ confirmed) (
         let all : plus (countBlocks others) one ≡ countBlocks (others ++ last) =
         ap (plus (countBlocks others)) (sym (plus-none one)) ∙ sym (count-append others last) in
         on others last o l (omega arith) (omega (arith, length-append (timeBlock n) [], length-block n))
-        ∙ last-block kind held r minutes (badRunAfter 0 others) (length others) n (countBlocks others) from to whole (later-usable minutes r n u e) e
+        ∙ last-block kind held r minutes (badRunAfter 0 others) (length others) n (countBlocks others) from to whole v e
         ∙ ap (λ (b : Blocks). ended 0 b 0 (holding 0 confirmed n 0)) all
 
     outlasts : (missed : List Missed) → length missed + 1 ≡ minutes → (before : List (List ℕ)) → Quiet before
@@ -106,10 +108,14 @@ module _ (kind : ℕ) (held : candidate ≤ kind) (known : kind ≤ confirmed) (
 -- ---- the dates
 
 module _ (d : Date) (r : Record) (first : ℕ) (w : Writable d r first) (minutes : ℕ) (n : Record) (e : minutesLater minutes r ≡ Given n) where
-  dates-on : minutesLaterOfDate minutes d .year < first + span → dateOf n first ≡ dated.Given (minutesLaterOfDate minutes d)
+  dates-on : codedYear (minutesLaterOfDate minutes d) < first + span → dateOf n first ≡ dated.Given (minutesLaterOfDate minutes d)
   dates-on h =
-      date-back (minutesLaterOfDate minutes d) n first (later-recorded minutes d r n (w .is-recorded) e (omega (arith, w .to-last)))
-      (w .from-first) (w .to-last) (omega (arith, w .begun, years-on minutes d)) h
+      date-back (minutesLaterOfDate minutes d) n first
+      (sym (later-of-date minutes d r (w .is-recorded) (omega (arith, w .to-last))) ∙ e)
+      (w .from-first)
+      (w .to-last)
+      (omega (arith, w .begun, coded-later d (record-given d r (w .is-recorded) .0) minutes))
+      h
 
 pub journey : EveryJourney
 journey s d r first i w =
@@ -120,11 +126,18 @@ journey s d r first i w =
       dates-back = date-back d r first (w .is-recorded) (w .from-first) (w .to-last) (w .begun) (w .within);
       lasts = λ kind held known. lasts kind held known r u;
       ends = λ kind held known. ends kind held known r u;
-      goes-on = λ minutes from to n e.
-          record {
-            has-word = has-word n (later-usable minutes r n u e);
-            confirms = λ kind held known. confirms kind held known r u minutes from to n e;
-            outlasts = λ kind held known. outlasts kind held known r u minutes from to n e;
-            dates-on = dates-on d r first w minutes n e;
-          };
+      goes-on = λ minutes from to.
+          let later = later-given minutes r u in
+          let n = later .0 in
+          let e = later .1 in
+          let v = later .2 in (
+            n,
+            e,
+            record {
+              has-word = has-word n v;
+              confirms = λ kind held known. confirms kind held known r u minutes from to n e v;
+              outlasts = λ kind held known. outlasts kind held known r u minutes from to n e v;
+              dates-on = dates-on d r first w minutes n e;
+            },
+          );
     }

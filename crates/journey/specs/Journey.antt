@@ -1,7 +1,7 @@
 -- One statement over the crates: a date is written as a record, the record as a word, the word as a block, and the block is fed
 -- bit by bit to a locked receiver, which holds the record; one to four minutes later the block of that minute is confirmed,
 -- whatever was missed in between while lock held, and the date is that many minutes later (01, "The calendar" and "Hunting, trying,
--- locked"; 02, No. 5).
+-- locked"; 02, No. 2 and No. 5).
 -- Assumes nothing.
 use Prim.Native.Nat.{ℕ, _+_, _*_, _≤_, _<_}
 use mathlib.Core.Path.{_≡_}
@@ -22,7 +22,7 @@ use Rattle.record.specs.Words.{writtenOf}
 use Rattle.calendar.specs.declared.Date.{Date}
 use Rattle.calendar.specs.declared.Dated.the-variants as dated
 use Rattle.calendar.specs.Years.{firstYear, lastFirstYear, span}
-use Rattle.calendar.specs.Dates.{dateOf, recordOf}
+use Rattle.calendar.specs.Dates.{dateOf, codedYear, recordOf}
 use Rattle.calendar.specs.MinutesLater.{minutesLater, minutesLaterOfDate}
 use Rattle.timekeeping.specs.Proper.{isGiven}
 use Rattle.timekeeping.specs.Times.{none, candidate, confirmed, timeOf, noTime, usableIn}
@@ -118,13 +118,13 @@ Leads s blocks t = runOf s (flatten blocks) ≡ ended 0 (countBlocks blocks) 0 t
 
 -- ---- the statement
 
--- a date that can be written, with its record, and a first year whose 28 years hold it
+-- a date that can be written, with its record, and a first year whose 28 years hold its coded year
 pub record Writable (d : Date) (r : Record) (first : ℕ) : Type 0 where
   pub is-recorded : recordOf d ≡ recorded.Given r
   pub from-first : firstYear ≤ first
   pub to-last : first ≤ lastFirstYear
-  pub begun : first ≤ d .year
-  pub within : d .year < first + span
+  pub begun : first ≤ codedYear d
+  pub within : codedYear d < first + span
 
 -- so many minutes after the record r of the date d, where n is the record then
 pub record MinutesOn (d : Date) (r : Record) (first minutes : ℕ) (n : Record) : Type 0 where
@@ -151,8 +151,8 @@ pub record MinutesOn (d : Date) (r : Record) (first minutes : ℕ) (n : Record) 
       (before : List (List ℕ)) →
       Quiet before →
       Leads (holding 0 kind r 0) ((heard missed ++ before) ++ timeBlock n ∷ []) (holding 0 confirmed n 0)
-  -- the held record's date is as many minutes later, where that minute is still in the 28 years, which end with 2099 at the latest
-  pub dates-on : minutesLaterOfDate minutes d .year < first + span → dateOf n first ≡ dated.Given (minutesLaterOfDate minutes d)
+  -- the held record's date is as many minutes later, where the year coded then is still in the 28, which end with 2099 at the latest
+  pub dates-on : codedYear (minutesLaterOfDate minutes d) < first + span → dateOf n first ≡ dated.Given (minutesLaterOfDate minutes d)
 
 pub record Journey (s : State) (d : Date) (r : Record) (first : ℕ) : Type 0 where
   -- the record has a word
@@ -181,8 +181,8 @@ pub record Journey (s : State) (d : Date) (r : Record) (first : ℕ) : Type 0 wh
       Each Other others →
       LockHolds 0 others →
       Leads (holding 0 kind r 0) others (nothingWaits (lockOf locked 0 (badRunAfter 0 others) noTime))
-  -- and it goes on for one to four minutes; there is no record then only where a day in week 54 begins in between
-  pub goes-on : (minutes : ℕ) → 1 ≤ minutes → minutes ≤ 4 → (n : Record) → minutesLater minutes r ≡ recorded.Given n → MinutesOn d r first minutes n
+  -- and it goes on for one to four minutes: there is a record then
+  pub goes-on : (minutes : ℕ) → 1 ≤ minutes → minutes ≤ 4 → (n : Record) × (minutesLater minutes r ≡ recorded.Given n) × MinutesOn d r first minutes n
 
 -- for every date that can be written, every first year that holds it, and every receiver that is locked and idle
 abbrev pub EveryJourney : Type 0

@@ -10,17 +10,18 @@ use Rattle.record.specs.Fields.{offsetOf, fieldsOf}
 use Rattle.record.specs.Ranges.{inRange, kindInRange, dayInRange, timeInRange, offsetInRange}
 use Rattle.record.specs.Words as words
 use Rattle.calendar.specs.Years.{leapYear, daysOfYears, startDay, yearFrom}
-use Rattle.calendar.specs.Days.{sumOf, monthFrom, dayOfYear, dayInYear}
-use Rattle.calendar.specs.Dates.{usableOf, dateIn, dateAfter, dateOf, dateInRange, recordAt, recordOf}
-use Rattle.calendar.specs.NextMinute.{nextWeekday, nextDay, goOn, nextAfter, nextMinuteOf}
+use Rattle.calendar.specs.Days.{sumOf, monthFrom}
+use Rattle.calendar.specs.Weeks.{weeksOf, yearAround}
+use Rattle.calendar.specs.Dates.{usableOf, dateIn, dateAfter, dateOf, dateInRange, codedYear, recordAt, recordOf}
+use Rattle.calendar.specs.NextMinute.{nextAfter, nextMinuteOf}
 use Rattle.places.specs.Places.{Places}
 
 pub places : Places
 unfolding bitsOf valueFrom remainderFrom blockOf bodyOf block.readOf
     words.readOf fieldsOf offsetOf inRange kindInRange dayInRange timeInRange offsetInRange
-    leapYear daysOfYears startDay yearFrom sumOf monthFrom dayOfYear dayInYear
-    usableOf dateIn dateAfter dateOf dateInRange recordAt recordOf
-    nextWeekday nextDay goOn nextAfter nextMinuteOf
+    leapYear daysOfYears startDay yearFrom sumOf monthFrom weeksOf yearAround
+    usableOf dateIn dateAfter dateOf dateInRange codedYear recordAt recordOf
+    nextAfter nextMinuteOf
 places =
     record {
       empty = (refl, written-good 0 0, refl);
@@ -35,6 +36,7 @@ places =
       minute-sixty = refl;
       filler = refl;
       last-sunday = refl;
-      week-54 = refl;
-      next-year = (refl, refl);
+      first-monday = refl;
+      no-week-53 = refl;
+      week-53 = refl;
     }

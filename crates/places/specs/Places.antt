@@ -1,4 +1,4 @@
--- The starred places to look, in document 01's order (01, "Sixteen places to look").
+-- The starred places to look, in document 01's order (01, "Sixteen places to look"), and behind them that of document 02, No. 2.
 -- Assumes nothing.
 use mathlib.Core.List.{[], _∷_, _++_}
 use mathlib.Core.Path.{_≡_}
@@ -65,11 +65,11 @@ pub record Places : Type 0 where
   pub minute-sixty : wordRefusal 0x4C16CF02 ≡ 6
   -- word 0x80000000: a filler, 5
   pub filler : wordRefusal 0x80000000 ≡ 5
-  -- 30 December 2012: week 53, weekday 7
-  pub last-sunday : recordOf (midnight 2012 12 30) ≡ recorded.Given (fields 0 7 53 7 0 0 (pos 0))
-  -- 31 December 2012: 7
-  pub week-54 : givenRecord (recordOf (midnight 2012 12 31)) .0 ≡ 7
-  -- the minute after 23:59 on 31 December 1986 (week 53, weekday 3): week 1, weekday 4, start day 4, leap code 3
-  pub next-year :
-      (recordOf (newDate 1986 12 31 23 59 (pos 0)) ≡ recorded.Given (fields 2 3 53 3 23 59 (pos 0)))
-      × (nextMinuteOf (fields 2 3 53 3 23 59 (pos 0)) ≡ recorded.Given (fields 3 4 1 4 0 0 (pos 0)))
+  -- 30 December 2012: week 52, weekday 7
+  pub last-sunday : recordOf (midnight 2012 12 30) ≡ recorded.Given (fields 0 7 52 7 0 0 (pos 0))
+  -- 31 December 2012: week 1, weekday 1 of 2013, start day 2, leap code 1
+  pub first-monday : recordOf (midnight 2012 12 31) ≡ recorded.Given (fields 1 2 1 1 0 0 (pos 0))
+  -- the minute after 23:59 in week 53, weekday 3 of 1986: 7, since that year has 52 weeks
+  pub no-week-53 : givenRecord (nextMinuteOf (fields 2 3 53 3 23 59 (pos 0))) .0 ≡ 7
+  -- 1 January 1982: week 53, weekday 5 of 1981, start day 4, leap code 1
+  pub week-53 : recordOf (midnight 1982 1 1) ≡ recorded.Given (fields 1 4 53 5 0 0 (pos 0))

@@ -11,7 +11,7 @@ use Rattle.block.specs.Read.{readOf}
 use Rattle.record.specs.Ranges.{offsetInRange, timeInRange, kindInRange, dayInRange, inRange}
 use Rattle.record.specs.Fields.{offsetOf, fieldsOf}
 use Rattle.record.specs.Words as words
-use Rattle.calendar.specs.Days.{dayOfYear, dayInYear}
+use Rattle.calendar.specs.Weeks.{weeksOf}
 use Rattle.calendar.specs.Dates.{usableOf}
 use Rattle.calendar.specs.NextMinute.{goOn, nextAfter, nextMinuteOf}
 use Rattle.calendar.specs.MinutesLater.{minutesLater}
@@ -37,7 +37,7 @@ pub confirming :
     × (timeAfter 59 2 ≡ confirmed)
 unfolding valueFrom remainderFrom blockOf readOf
     offsetOf fieldsOf offsetInRange timeInRange kindInRange dayInRange inRange words.readOf
-    dayOfYear dayInYear usableOf goOn nextAfter nextMinuteOf minutesLater
+    weeksOf usableOf goOn nextAfter nextMinuteOf minutesLater
     usableIn sameMinute follows confirms renewedBy agedBy offeredTo
     hunted tried heldOn judgedBy
     freshOf judgedStep stepOf afterFrom

@@ -16,9 +16,9 @@ pub enum Refusal {
     NotARecord,
     // A field or a code is out of range, or there is no such month or day.
     OutOfRange,
-    // The day is not in its year, or it falls in week 54.
+    // Week 53 in a year without one.
     NotInYear,
-    // A first year or a written year is outside the calendar.
+    // A first year, or the civil or coded year of a written date, is outside the calendar.
     WrongYear,
     // A run is longer than 65,536.
     RunTooLong,

@@ -32,7 +32,7 @@ timeOf kind held age = record { kind = kind; held = held; age = age }
 abbrev pub noTime : Time
 noTime = timeOf none zeroRecord 0
 
--- a usable time block is a good time block whose fields are in range and whose day is in its year: its record
+-- a usable time block is a good time block whose fields are in range and whose year has the week: its record
 abbrev pub thenUsable : Recorded → Recorded
 thenUsable (Given r) = usableOf r
 thenUsable (Refused why) = Refused why

@@ -25,7 +25,7 @@ returns : tie.Need-returns
 unfolding nextMinuteOf nextAfter
 returns c =
     let arm = c .before .before in
-    rw (← arm .before .before .usable .ensures, arm .r .given .1) (c .go-on .ensures)
+    rw (← arm .before .before .usable .ensures, arm .r .given .1, c .go-on .ensures)
 
 returns-2 : tie.Need-returns-2
 unfolding nextMinuteOf nextAfter

@@ -7,8 +7,8 @@ use Rattle.calendar.specs.Dates.{recordOf}
 use Rattle.calendar.proofs.record_of_date.Statement.{statement}
 use Rattle.calendar.proofs.record_of_date.Tie as tie
 
-has-year-requires : tie.Need-has-year-requires
-has-year-requires c κs = search needs
+within-requires : tie.Need-within-requires
+within-requires c κs = search needs
 
 date-in-range-requires : tie.Need-date-in-range-requires
 date-in-range-requires c κs = search needs
@@ -16,7 +16,7 @@ date-in-range-requires c κs = search needs
 written-requires : tie.Need-written-requires
 written-requires c κs =
     let range = c .before .before in
-    let year = between 1901 _ 2099 (sym (range .before .has-year .ensures) ∙ c .before .if1 .taken) in
+    let year = between 1900 _ 2100 (sym (range .before .within .ensures) ∙ c .before .if1 .taken) in
     (year .0, year .1, sym (range .date-in-range .ensures) ∙ c .if2 .taken)
 
 returns : tie.Need-returns
@@ -26,17 +26,17 @@ returns-2 : tie.Need-returns-2
 unfolding recordOf
 returns-2 c =
     let range = c .before .before in
-    rw (← range .before .has-year .ensures, c .before .if1 .taken, ← range .date-in-range .ensures, c .if2 .left)
+    rw (← range .before .within .ensures, c .before .if1 .taken, ← range .date-in-range .ensures, c .if2 .left)
 
 returns-3 : tie.Need-returns-3
 unfolding recordOf
-returns-3 c = rw (← c .before .before .has-year .ensures, c .if1 .left)
+returns-3 c = rw (← c .before .before .within .ensures, c .if1 .left)
 
 pub record-of-date-spec : {M : Type 1} → statement M
 record-of-date-spec =
     tie.close
     (tie.spec
-    has-year-requires
+    within-requires
     date-in-range-requires
     written-requires
     returns

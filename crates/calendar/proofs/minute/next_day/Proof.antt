@@ -1,50 +1,15 @@
 -- `calendar::minute::next_day` meets its contract: the tests come in the order of the definition.
 -- Assumes nothing.
-use native.Mathlib.Omega.{arith}
 use borrow.Author.Needs.{needs}
 use borrow.Author.Tests.{lt-ltb, le-ltb}
-use lib.Dec.{eqb}
 use Rattle.record.proofs.Bounds.{bounds}
 use Rattle.record.proofs.Offset.{back}
-use Rattle.calendar.proofs.Years.{year-max}
 use Rattle.calendar.specs.NextMinute.{nextDay}
 use Rattle.calendar.proofs.minute.next_day.Statement.{statement}
 use Rattle.calendar.proofs.minute.next_day.Tie as tie
 
-year-length-requires : tie.Need-year-length-requires
-year-length-requires c κs = search needs
-
-day-of-year-requires : tie.Need-day-of-year-requires
-day-of-year-requires c κs = search needs
-
-next-weekday-requires : tie.Need-next-weekday-requires
-next-weekday-requires c κs = search needs
-
-cast-start-day : tie.Need-cast-start-day
-cast-start-day c = search needs
-
-sub-start-day : tie.Need-sub-start-day
-sub-start-day c =
-    let start = c .before .before .before .before .before in
-    let b = bounds (start .args .«record») (start .pre) in
-    omega arith
-
-add-start-day : tie.Need-add-start-day
-add-start-day c =
-    let year = c .before .before .before in
-    omega (arith, year .year-length .ensures, year-max (eqb (year .before .before .args .«record» .leap) 0))
-
-add-start-day-2 : tie.Need-add-start-day-2
-add-start-day-2 c = search needs
-
-cast-start-day-2 : tie.Need-cast-start-day-2
-cast-start-day-2 c = search needs
-
-add-leap : tie.Need-add-leap
-add-leap c =
-    let start = c .before .before .before .before .before .before in
-    let b = bounds (start .args .«record») (start .pre) in
-    omega arith
+add-midnight : tie.Need-add-midnight
+add-midnight c = search needs
 
 midnight-requires : tie.Need-midnight-requires
 midnight-requires c κs = search needs
@@ -53,29 +18,51 @@ returns : tie.Need-returns
 unfolding nextDay
 returns c =
     let day = c .before .before in
-    rw (← day .before .year-length .ensures, ← day .day-of-year .ensures, lt-ltb _ _ (c .before .if1 .taken)) (c .next-weekday .ensures)
+    let told = day .before .before in
+    let offset = back {z = told .before .args .«record» .offset} (told .struct-told .given .1 .1 .1 .1 .1 .1 .0 .1) in
+    rw (c .midnight .ensures, offset, lt-ltb _ 7 (day .if1 .taken))
+
+weeks-of-requires : tie.Need-weeks-of-requires
+weeks-of-requires c κs =
+    let start = c .before .before .before in
+    bounds (start .args .«record») (start .pre) .start-day
+
+add-midnight-2 : tie.Need-add-midnight-2
+add-midnight-2 c = search needs
+
+midnight-requires-2 : tie.Need-midnight-requires-2
+midnight-requires-2 c κs = search needs
 
 returns-2 : tie.Need-returns-2
 unfolding nextDay
 returns-2 c =
-    let last = c .before .before .before .before in
-    let start = last .before .before .before .before in
-    let offset = back {z = start .args .«record» .offset} (c .before .struct-told .given .1 .1 .1 .1 .1 .1 .0 .1) in
-    rw (c .midnight .ensures, offset, ← last .before .before .year-length .ensures, ← last .before .day-of-year .ensures, le-ltb _ _ (last .if1 .left))
+    let week = c .before .before in
+    let weeks = week .before .before in
+    let day = weeks .before in
+    let told = day .before .before in
+    let offset = back {z = told .before .args .«record» .offset} (told .struct-told .given .1 .1 .1 .1 .1 .1 .0 .1) in
+    rw (c .midnight2 .ensures, offset, le-ltb _ 7 (day .if1 .left), ← weeks .weeks-of .ensures, lt-ltb _ _ (week .if2 .taken))
+
+next-year-requires : tie.Need-next-year-requires
+next-year-requires c κs = search needs
+
+returns-3 : tie.Need-returns-3
+unfolding nextDay
+returns-3 c =
+    let week = c .before in
+    let weeks = week .before .before in
+    rw (le-ltb _ 7 (weeks .before .if1 .left), ← weeks .weeks-of .ensures, le-ltb _ _ (week .if2 .left)) (c .next-year .ensures)
 
 pub next-day-spec : {M : Type 1} → statement M
 next-day-spec =
     tie.close
     (tie.spec
-    year-length-requires
-    day-of-year-requires
-    next-weekday-requires
-    cast-start-day
-    sub-start-day
-    add-start-day
-    add-start-day-2
-    cast-start-day-2
-    add-leap
+    add-midnight
     midnight-requires
     returns
-    returns-2)
+    weeks-of-requires
+    add-midnight-2
+    midnight-requires-2
+    returns-2
+    next-year-requires
+    returns-3)
