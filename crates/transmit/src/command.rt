@@ -86,7 +86,7 @@ fn wrong_count() -> Asked {
 }
 
 fn wrong_date() -> Asked {
-    complain(b"DATE: expected a day as 1986-01-01, of the years 1901 to 2099 and not in week 54")
+    complain(b"DATE: expected a day as 1986-01-01, from 1900-12-31 to 2100-01-03")
 }
 
 fn wrong_time() -> Asked {

@@ -91,14 +91,7 @@ fn send_minute(start: Left, record: Record) -> Sent
     end_line(send_block(left, word_of(record)))
 }
 
-fn tell_early_end() {
-    io::write_all(
-        2,
-        b"transmit: the feed ends early: no record tells the next day, which is in week 54\n",
-    );
-}
-
-// Minute after minute, as long as there is a record for the next and standard output takes it.
+// Minute after minute, as long as standard output takes it.
 fn send(first: Record, minutes: u16, start: Left) {
     let mut record = first;
     let mut left = start;
@@ -109,10 +102,8 @@ fn send(first: Record, minutes: u16, start: Left) {
         };
         left = then;
         k -= 1;
+        // The record of a date always has a next minute.
         let Recorded::Given(next) = calendar::next_minute(record) else {
-            if 0 < k {
-                tell_early_end();
-            }
             return;
         };
         record = next;

@@ -38,14 +38,8 @@ enum-known-next c = search needs
 enum-told-2 : tie.Need-enum-told-2 Inv-loop μ-loop
 enum-told-2 c = search needs
 
-tell-early-end-requires : tie.Need-tell-early-end-requires Inv-loop μ-loop
-tell-early-end-requires c κs = tt
-
 returns-2 : tie.Need-returns-2 Inv-loop μ-loop
 returns-2 c = tt
-
-returns-3 : tie.Need-returns-3 Inv-loop μ-loop
-returns-3 c = tt
 
 loop-less : tie.Need-loop-less Inv-loop μ-loop
 loop-less c = omega arith
@@ -53,8 +47,8 @@ loop-less c = omega arith
 loop-again : tie.Need-loop-again Inv-loop μ-loop
 loop-again c = tt
 
-returns-4 : tie.Need-returns-4 Inv-loop μ-loop
-returns-4 c = tt
+returns-3 : tie.Need-returns-3 Inv-loop μ-loop
+returns-3 c = tt
 
 pub send-spec : {M : Type 1} → statement M
 send-spec =
@@ -71,9 +65,7 @@ send-spec =
     next-minute-requires
     enum-known-next
     enum-told-2
-    tell-early-end-requires
     returns-2
-    returns-3
     loop-less
     loop-again
-    returns-4)
+    returns-3)
