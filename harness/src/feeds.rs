@@ -31,11 +31,10 @@ fn other_code(random: &mut Random) -> u64 {
 pub struct Sender(pub Record);
 
 impl Sender {
-    /// The blocks of one minute. Where the calendar has no next one, the
-    /// transmitter goes on at another time.
+    /// The blocks of one minute.
     pub fn minute(&mut self, random: &mut Random) -> [u64; MINUTE] {
         let told = self.0;
-        self.0 = calendar::next_minute(told).unwrap_or_else(|_| random.usable_record());
+        self.0 = calendar::next_minute(told).expect("a usable record");
         std::array::from_fn(|place| match random.below(4) {
             _ if place == MINUTE - 1 => time_block(told),
             0 => other_code(random),
@@ -50,18 +49,17 @@ impl Sender {
 }
 
 /// A feed as the test generator sends it: empty fillers, a minute to a line, as
-/// characters. It ends where the calendar has no next minute.
+/// characters.
 pub fn plain(first: Record, minutes: usize) -> String {
     let filler = block(0, 1 << 31);
     let mut text = String::new();
-    let mut told = Ok(first);
+    let mut told = first;
     for _ in 0..minutes {
-        let Ok(record) = told else { break };
         let mut sent = [filler; MINUTE];
-        sent[MINUTE - 1] = time_block(record);
+        sent[MINUTE - 1] = time_block(told);
         text.extend(bits_of_all(&sent).iter().map(|&bit| char::from(b'0' + bit)));
         text.push('\n');
-        told = calendar::next_minute(record);
+        told = calendar::next_minute(told).expect("a usable record");
     }
     text
 }
@@ -125,7 +123,7 @@ impl Mishap {
     }
 }
 
-/// A time block with a field out of range or a day that is not in its year.
+/// A time block with a field out of range or a week that is not in its year.
 pub fn unusable_time_block(random: &mut Random) -> u64 {
     loop {
         let word = random.number() as u32 >> 1;

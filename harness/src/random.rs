@@ -105,7 +105,7 @@ impl Random {
         self.below(64) as i8 - 32
     }
 
-    /// A record with every field in range. Its day need not be in its year.
+    /// A record with every field in range. Its year may lack its week.
     pub fn record(&mut self) -> Record {
         Record {
             leap: self.between(0, 3),
@@ -123,10 +123,10 @@ impl Random {
         std::iter::repeat_with(|| self.record()).find(calendar::usable).expect("there is no end")
     }
 
-    /// A date of 1901 to 2099. Its month may lack its day.
+    /// A date of 1900 to 2100. Its month may lack its day.
     pub fn date(&mut self) -> Date {
         Date {
-            year: 1901 + self.below(199) as u16,
+            year: 1900 + self.below(201) as u16,
             month: self.between(1, 12),
             day: self.between(1, 31),
             hour: self.between(0, 23),

@@ -2,11 +2,14 @@
 //! records of dates and the next minute.
 
 use std::collections::BTreeSet;
+use std::ops::RangeInclusive;
 
 use harness::compare::{dating, going_on, reading_record, recording, writing_record};
 use harness::face::{Date, Record};
 use harness::fields;
-use harness::independent::calendar::{all_days, minute_after, FIRST_YEARS, YEARS};
+use harness::independent::calendar::{
+    civil_days, coded_year, days_with_record, minute_after, FIRST_YEARS,
+};
 use harness::random::{report, Random};
 use harness::refusals::{NOT_IN_YEAR, OUT_OF_RANGE, WRONG_YEAR};
 
@@ -18,8 +21,25 @@ const DATE: Date = Date { year: 1986, month: 1, day: 1, hour: 0, minute: 0, offs
 const RECORD: Record =
     Record { leap: 2, start_day: 3, week: 1, weekday: 3, hour: 0, minute: 0, offset: 0 };
 
-/// First years whose 28 years hold the year.
-fn holding(year: u16) -> std::ops::RangeInclusive<u16> {
+/// Week 53 in a year without one.
+const NO_WEEK: Record = Record { week: 53, ..RECORD };
+
+/// The coded years of all records, and how many of them have 53 weeks.
+const CODED_YEARS: RangeInclusive<u16> = 1901..=2099;
+const LONG_YEARS: usize = 36;
+
+fn midnight(year: u16, month: u8, day: u8) -> Date {
+    Date { year, month, day, ..DATE }
+}
+
+/// A record at 00:00 with offset 0.
+fn place(leap: u8, start_day: u8, week: u8, weekday: u8) -> Record {
+    Record { leap, start_day, week, weekday, ..RECORD }
+}
+
+/// First years whose 28 years hold the coded year of a date.
+fn holding(date: Date) -> RangeInclusive<u16> {
+    let year = coded_year(date);
     (year - 27).max(*FIRST_YEARS.start())..=year.min(*FIRST_YEARS.end())
 }
 
@@ -30,73 +50,167 @@ fn the_places_to_look() {
     {
         let record = reading_record(0, word).expect("a record");
         let date = Date { hour, minute, offset, ..DATE };
+        assert_eq!(record, Record { hour, minute, offset, ..RECORD });
         assert_eq!(dating(record, 1970), Ok(date));
         assert_eq!(recording(date), Ok(record));
     }
-    let sunday = Date { year: 2012, month: 12, day: 30, ..DATE };
-    let record = recording(sunday).expect("a record");
-    assert_eq!((record.week, record.weekday), (53, 7));
-    assert_eq!(recording(Date { day: 31, ..sunday }), Err(NOT_IN_YEAR));
-    let last_minute = Record { week: 53, weekday: 3, hour: 23, minute: 59, ..RECORD };
-    let first_minute = Record { leap: 3, start_day: 4, week: 1, weekday: 4, ..RECORD };
-    assert_eq!(going_on(last_minute), Ok(first_minute));
+    for (date, record) in [
+        (midnight(2012, 12, 30), place(0, 7, 52, 7)),
+        (midnight(2012, 12, 31), place(1, 2, 1, 1)),
+        (midnight(1982, 1, 1), place(1, 4, 53, 5)),
+        (midnight(1900, 12, 31), place(1, 2, 1, 1)),
+        (midnight(2100, 1, 1), place(3, 4, 53, 5)),
+        (midnight(2100, 1, 2), place(3, 4, 53, 6)),
+        (midnight(2100, 1, 3), place(3, 4, 53, 7)),
+    ] {
+        assert_eq!(recording(date), Ok(record));
+        assert_eq!(dating(record, *holding(date).start()), Ok(date));
+    }
+    let last_minute = Record { hour: 23, minute: 59, ..NO_WEEK };
+    assert_eq!(going_on(last_minute), Err(NOT_IN_YEAR));
     for (first_year, refusal) in [(1900, 8), (1901, 0), (2072, 0), (2073, 8)] {
         assert_eq!(dating(RECORD, first_year).err().unwrap_or(0), refusal);
     }
 }
 
 #[test]
-fn week_54_falls_on_seven_days() {
-    let refused = all_days().filter(|&date| recording(date) == Err(NOT_IN_YEAR));
-    let expected = (1928..=2096).step_by(28).map(|year| (year, 12, 31));
-    assert!(refused.map(|date| (date.year, date.month, date.day)).eq(expected));
+fn after_the_last_minute_of_a_year() {
+    for (last, first) in [
+        // 1986 and 2012 have 52 weeks; 1981, 1992 and 2004 have 53.
+        (place(2, 3, 52, 7), place(3, 4, 1, 1)),
+        (place(0, 7, 52, 7), place(1, 2, 1, 1)),
+        (place(1, 4, 53, 7), place(2, 5, 1, 1)),
+        (place(0, 3, 53, 7), place(1, 5, 1, 1)),
+        (place(0, 4, 53, 7), place(1, 6, 1, 1)),
+        // 2099 has 53 too. To a record 2100 is a leap year.
+        (place(3, 4, 53, 7), place(0, 5, 1, 1)),
+        // In a year of 53 weeks week 52 is not the last.
+        (place(1, 4, 52, 7), place(1, 4, 53, 1)),
+    ] {
+        for offset in [-32, 0, 31] {
+            let last = Record { hour: 23, minute: 59, offset, ..last };
+            assert_eq!(going_on(last), Ok(Record { offset, ..first }));
+        }
+    }
 }
 
 #[test]
 fn tests_come_in_their_order() {
-    let no_day = Record { week: 53, weekday: 7, ..RECORD };
-    assert_eq!(dating(no_day, 1970), Err(NOT_IN_YEAR));
-    assert_eq!(dating(Record { hour: 24, ..no_day }, 1970), Err(OUT_OF_RANGE));
-    assert_eq!(dating(Record { hour: 24, ..no_day }, 1900), Err(WRONG_YEAR));
-    assert_eq!(going_on(no_day), Err(NOT_IN_YEAR));
-    assert_eq!(going_on(Record { hour: 24, ..no_day }), Err(OUT_OF_RANGE));
-    assert!(writing_record(no_day).is_ok(), "the day is not tested");
+    assert_eq!(dating(NO_WEEK, 1970), Err(NOT_IN_YEAR));
+    assert_eq!(dating(NO_WEEK, 1900), Err(WRONG_YEAR));
+    assert_eq!(dating(Record { hour: 24, ..NO_WEEK }, 1970), Err(OUT_OF_RANGE));
+    assert_eq!(dating(Record { hour: 24, ..NO_WEEK }, 1900), Err(WRONG_YEAR));
+    assert_eq!(going_on(NO_WEEK), Err(NOT_IN_YEAR));
+    assert_eq!(going_on(Record { hour: 24, ..NO_WEEK }), Err(OUT_OF_RANGE));
+    assert!(writing_record(NO_WEEK).is_ok(), "the week is not tested");
 
-    let week_54 = Date { year: 2012, month: 12, day: 31, ..DATE };
-    for bad in [Date { hour: 24, ..week_54 }, Date { minute: 60, ..week_54 }] {
-        assert_eq!(recording(bad), Err(OUT_OF_RANGE));
-        assert_eq!(recording(Date { year: 2100, ..bad }), Err(WRONG_YEAR));
+    // First the civil year, then what is out of range, then the coded year.
+    for bad in [Date { hour: 24, ..DATE }, Date { minute: 60, ..DATE }, Date { offset: 32, ..DATE }]
+    {
+        for (year, month, day, refusal) in [
+            (1899, 12, 31, WRONG_YEAR),
+            (1900, 12, 30, OUT_OF_RANGE),
+            (1900, 12, 31, OUT_OF_RANGE),
+            (2100, 1, 3, OUT_OF_RANGE),
+            (2100, 1, 4, OUT_OF_RANGE),
+            (2101, 1, 1, WRONG_YEAR),
+        ] {
+            assert_eq!(recording(Date { year, month, day, ..bad }), Err(refusal));
+        }
     }
-    // 1900 and 2100 would lack the day as well.
-    for year in [1900, 2100] {
-        assert_eq!(recording(Date { year, month: 2, day: 29, ..DATE }), Err(WRONG_YEAR));
+    for (date, refusal) in [
+        (midnight(1899, 2, 29), WRONG_YEAR),
+        (midnight(1900, 2, 29), OUT_OF_RANGE),
+        (midnight(1900, 12, 30), WRONG_YEAR),
+        (midnight(2100, 1, 4), WRONG_YEAR),
+        (midnight(2100, 2, 29), OUT_OF_RANGE),
+        (midnight(2101, 2, 29), WRONG_YEAR),
+    ] {
+        assert_eq!(recording(date), Err(refusal), "{date:?}");
     }
 }
 
+#[test]
+fn which_days_have_records() {
+    let mut counts = [0; 2];
+    for date in civil_days() {
+        let day = (date.year, date.month, date.day);
+        let has_record = ((1900, 12, 31)..=(2100, 1, 3)).contains(&day);
+        let refusal = (!has_record).then_some(WRONG_YEAR);
+        assert_eq!(recording(date).err(), refusal, "{date:?}");
+        counts[usize::from(has_record)] += 1;
+    }
+    // All but one day of 1900; of the other years 49 are leap, 1904 to 2096.
+    assert_eq!(counts, [364 + 362, 1 + 199 * 365 + 49 + 3]);
+}
+
+/// The years in which a Thursday of week 53 lies: every week has its Thursday in
+/// its own year.
+fn years_with_week_53() -> BTreeSet<u16> {
+    let records = days_with_record().filter_map(|date| Some((date.year, recording(date).ok()?)));
+    let thursdays = records.filter(|(_, record)| (record.week, record.weekday) == (53, 4));
+    thursdays.map(|(year, _)| year).collect()
+}
+
+/// Whether a year starts on a Thursday, or is leap and starts on a Wednesday.
+fn must_have_week_53(year: u16) -> bool {
+    let first = recording(midnight(year, 1, 1)).expect("a record");
+    let leap = recording(midnight(year, 2, 29)).is_ok();
+    first.weekday == 4 || leap && first.weekday == 3
+}
+
+#[test]
+fn thirty_six_years_have_53_weeks() {
+    let years = years_with_week_53();
+    assert!(CODED_YEARS.filter(|&year| must_have_week_53(year)).eq(years.iter().copied()));
+    assert_eq!(years.len(), LONG_YEARS);
+    assert!(years.contains(&1981));
+}
+
+#[test]
+fn every_year_has_whole_weeks_in_their_order() {
+    let records: Vec<Record> = days_with_record().filter_map(|day| recording(day).ok()).collect();
+    for seven in records.chunks(7) {
+        let week = (1..=7).map(|weekday| Record { weekday, ..seven[0] });
+        assert!(week.eq(seven.iter().copied()), "{seven:?}");
+    }
+    let mondays: Vec<Record> = records.into_iter().step_by(7).collect();
+    for pair in mondays.windows(2) {
+        let [week, next] = [pair[0], pair[1]];
+        let goes_on = next == Record { week: week.week + 1, ..week };
+        let ends = week.week >= 52 && next.week == 1;
+        assert!(goes_on || ends, "{pair:?}");
+    }
+    assert_eq!(mondays.len(), 199 * 52 + LONG_YEARS);
+    let first_weeks = mondays.iter().filter(|monday| monday.week == 1);
+    assert_eq!(first_weeks.count(), 199);
+}
+
 /// Takes a date to its record, the record to its word, and both back again.
-fn there_and_back(date: Date) -> Option<Record> {
-    let record = recording(date).ok()?;
+fn there_and_back(date: Date) -> Record {
+    let record = recording(date).expect("a record");
     let word = writing_record(record).expect("a word");
     assert_eq!(reading_record(0, word), Ok(record));
-    let held = holding(date.year);
+    let held = holding(date);
     for first_year in held.clone() {
         assert_eq!(dating(record, first_year), Ok(date));
     }
     for first_year in [held.start() - 1, held.end() + 1, 1901, 2072, 1900, 2073, 0, 65_535] {
         assert_eq!(dating(record, first_year) == Ok(date), held.contains(&first_year));
     }
-    Some(record)
+    record
 }
 
 /// The record's next minute must be the record of the date's next minute.
 fn must_go_on(date: Date, record: Record) {
-    let expected = match minute_after(date) {
-        Some(after) => recording(after),
+    let after = minute_after(date);
+    let expected = if (after.year, after.month, after.day) == (2100, 1, 4) {
         // 2100 begins on a Friday. To a record it is a leap year.
-        None => {
-            Ok(Record { leap: 0, start_day: 5, week: 1, weekday: 5, hour: 0, minute: 0, ..record })
-        }
+        Ok(Record { offset: record.offset, ..place(0, 5, 1, 1) })
+    } else {
+        recording(after)
     };
+    assert!(expected.is_ok(), "{after:?}");
     assert_eq!(going_on(record), expected);
 }
 
@@ -104,12 +218,10 @@ fn must_go_on(date: Date, record: Record) {
 fn every_day() {
     let mut random = Random::named("days");
     let mut count = 0;
-    for day in all_days() {
+    for day in days_with_record() {
         for (hour, minute) in TIMES {
             let date = Date { hour, minute, offset: random.offset(), ..day };
-            if let Some(record) = there_and_back(date) {
-                must_go_on(date, record);
-            }
+            must_go_on(date, there_and_back(date));
             count += 1;
         }
     }
@@ -120,8 +232,8 @@ fn every_day() {
 fn every_minute_of_every_kind_of_year() {
     // 28 successive years hold every kind.
     let mut count = 0;
-    for day in all_days().take_while(|day| day.year < 1901 + 28) {
-        let Ok(record) = recording(day) else { continue };
+    for day in days_with_record().take_while(|&day| coded_year(day) < 1901 + 28) {
+        let record = recording(day).expect("a record");
         for (hour, minute) in (0..24).flat_map(|hour| (0..60).map(move |minute| (hour, minute))) {
             must_go_on(Date { hour, minute, ..day }, Record { hour, minute, ..record });
             count += 1;
@@ -135,9 +247,8 @@ fn combinations() -> impl Iterator<Item = Record> {
     let weeks = || (0..=54).chain([63, 255]);
     let years = (0..=4).flat_map(|leap| (0..=8).map(move |start_day| (leap, start_day)));
     years.flat_map(move |(leap, start_day)| {
-        weeks().flat_map(move |week| {
-            (0..=8).map(move |weekday| Record { leap, start_day, week, weekday, ..RECORD })
-        })
+        weeks()
+            .flat_map(move |week| (0..=8).map(move |weekday| place(leap, start_day, week, weekday)))
     })
 }
 
@@ -161,6 +272,26 @@ fn every_place_in_every_kind_of_year() {
 }
 
 #[test]
+fn all_that_is_in_range_is_usable_but_a_week_53_too_many() {
+    let mut refused = BTreeSet::new();
+    for leap in 0..=3 {
+        for start_day in 1..=7 {
+            for (week, weekday) in (1..=53).flat_map(|week| (1..=7).map(move |day| (week, day))) {
+                let record = place(leap, start_day, week, weekday);
+                let long = start_day == 4 || (leap, start_day) == (0, 3);
+                let refusal = (week == 53 && !long).then_some(NOT_IN_YEAR);
+                assert_eq!(going_on(record).err(), refusal, "{record:?}");
+                assert_eq!(dating(record, 1901).err(), refusal, "{record:?}");
+                if refusal.is_some() {
+                    refused.insert(record.bytes());
+                }
+            }
+        }
+    }
+    assert_eq!(refused.len(), (28 - 5) * 7);
+}
+
+#[test]
 fn every_first_year() {
     let kinds = (0..=3).flat_map(|leap| (1..=7).map(move |start_day| (leap, start_day)));
     let records: Vec<Record> =
@@ -180,11 +311,12 @@ fn every_first_year() {
 
 #[test]
 fn every_value_of_two_fields_of_a_record() {
-    // The last day of a leap year, and of a common one at its last minute.
-    let new_year = Record { leap: 0, start_day: 1, week: 53, weekday: 2, ..RECORD };
-    let last_minute = Record { week: 53, hour: 23, minute: 59, offset: -32, ..RECORD };
+    // The last day of a leap year of 53 weeks, and the last minute of a common
+    // year of 52.
+    let last_day = place(0, 3, 53, 7);
+    let last_minute = Record { hour: 23, minute: 59, offset: -32, ..place(2, 3, 52, 7) };
     let mut count = 0;
-    for record in [RECORD, new_year, last_minute] {
+    for record in [RECORD, last_day, last_minute] {
         for changed in fields::two_changed(record.bytes()).map(Record::of_bytes) {
             for first_year in [1970, 1900] {
                 let _ = dating(changed, first_year);
@@ -200,11 +332,12 @@ fn every_value_of_two_fields_of_a_record() {
 fn every_value_of_two_fields_of_a_date() {
     let mut count = 0;
     // Leap years and others, the ends of the range, and years beyond it.
-    for year in [1901, 1904, 1986, 2000, 2012, 2099, 1900, 2100] {
-        for (month, day, hour, minute) in [(2, 29, 0, 0), (12, 31, 23, 59)] {
+    for year in [1901, 1904, 1986, 2000, 2012, 2099, 1900, 2100, 1899, 2101] {
+        for (month, day, hour, minute) in [(2, 29, 0, 0), (12, 31, 23, 59), (1, 3, 23, 59)] {
             let bytes = Date { year, month, day, hour, minute, offset: -32 }.bytes();
             for changed in fields::two_changed(bytes) {
-                let _ = recording(Date::of_bytes(year, changed));
+                let answer = recording(Date::of_bytes(year, changed));
+                assert_ne!(answer, Err(NOT_IN_YEAR), "7 is never an answer in writing");
                 count += 1;
             }
         }
@@ -214,12 +347,19 @@ fn every_value_of_two_fields_of_a_date() {
 
 #[test]
 fn every_year_there_can_be() {
+    const DAYS: [(u8, u8); 9] =
+        [(1, 1), (1, 4), (2, 28), (2, 29), (3, 1), (12, 30), (12, 31), (13, 1), (4, 31)];
     for year in 0..=65_535 {
-        for (month, day) in [(1, 1), (2, 28), (2, 29), (3, 1), (12, 30), (12, 31), (13, 1), (4, 31)]
-        {
-            let answer = recording(Date { year, month, day, ..DATE });
-            assert_eq!(answer == Err(WRONG_YEAR), !YEARS.contains(&year));
-        }
+        let refusals =
+            DAYS.map(|(month, day)| recording(midnight(year, month, day)).err().unwrap_or(0));
+        let expected = match year {
+            1900 => [8, 8, 8, 6, 8, 8, 0, 6, 6],
+            1901..=2099 if year % 4 == 0 => [0, 0, 0, 0, 0, 0, 0, 6, 6],
+            1901..=2099 => [0, 0, 0, 6, 0, 0, 0, 6, 6],
+            2100 => [0, 8, 8, 6, 8, 8, 8, 6, 6],
+            _ => [8; DAYS.len()],
+        };
+        assert_eq!(refusals, expected, "{year}");
     }
 }
 
@@ -227,7 +367,8 @@ fn every_year_there_can_be() {
 fn ten_million_random_records_and_dates() {
     const COUNT: usize = 10_000_000;
     let mut random = Random::named("dates");
-    let mut refusals = [0; 9];
+    let mut dated = [0; 9];
+    let mut recorded = [0; 9];
     for _ in 0..COUNT {
         let record = random.record();
         let changed = Record::of_bytes(random.with_any_byte(record.bytes()));
@@ -235,17 +376,22 @@ fn ten_million_random_records_and_dates() {
         for record in [record, changed] {
             let _ = going_on(record);
             let refusal = dating(record, first_year).err().unwrap_or(0);
-            refusals[usize::from(refusal)] += 1;
+            dated[usize::from(refusal)] += 1;
         }
         let date = random.date();
         let changed = Date::of_bytes(date.year, random.with_any_byte(date.bytes()));
-        let _ = recording(changed);
-        if let Ok(record) = recording(date) {
-            assert_eq!(dating(record, *holding(date.year).start()), Ok(date));
+        for date in [date, changed] {
+            let answer = recording(date);
+            recorded[usize::from(answer.err().unwrap_or(0))] += 1;
+            if let Ok(record) = answer {
+                assert_eq!(dating(record, *holding(date).start()), Ok(date));
+            }
         }
     }
-    // None of the kinds may have been left out.
-    let seen = refusals.map(|count| count > COUNT / 100);
-    assert_eq!(seen, [true, false, false, false, false, false, true, true, true]);
+    // None of the kinds may have been left out, and 7 is no answer in writing.
+    let seen = |counts: [usize; 9]| counts.map(|count| count > COUNT / 100);
+    assert_eq!(seen(dated), [true, false, false, false, false, false, true, true, true]);
+    assert_eq!(seen(recorded), [true, false, false, false, false, false, true, false, true]);
+    assert_eq!(recorded[usize::from(NOT_IN_YEAR)], 0);
     report("random records and dates", COUNT);
 }

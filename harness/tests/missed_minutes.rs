@@ -22,9 +22,9 @@ const LOSSES: [Mishap; 3] = [Mishap::SingleError, Mishap::Filler, Mishap::Unusab
 /// Minutes of which every pattern is tried.
 const MINUTES: usize = 8;
 
-/// 31 December 1986, 23:56. Half of the eight minutes are in the new year.
+/// 28 December 1986, 23:56. Half of the eight minutes are in the first week of 1987.
 const FIRST: Record =
-    Record { leap: 2, start_day: 3, week: 53, weekday: 3, hour: 23, minute: 56, offset: 0 };
+    Record { leap: 2, start_day: 3, week: 52, weekday: 7, hour: 23, minute: 56, offset: 0 };
 
 /// The bits received of a minute.
 fn received(sent: [u64; MINUTE], mishaps: Mishaps, random: &mut Random) -> Vec<u8> {

@@ -20,16 +20,26 @@ use harness::refusals::{NOT_A_BIT, RUN_TOO_LONG};
 const RECORD: Record =
     Record { leap: 2, start_day: 3, week: 1, weekday: 3, hour: 12, minute: 34, offset: 2 };
 
-/// A day that is not in its year.
-const NO_DAY: Record = Record { week: 53, weekday: 7, ..RECORD };
+/// Week 53 in a year without one.
+const NO_WEEK: Record = Record { week: 53, ..RECORD };
 
-/// Records to hold: an ordinary one, the last minutes of a common and of a leap
-/// year, one that has no next minute and one that has only two.
-fn records() -> [Record; 5] {
-    let last_minute = Record { week: 53, hour: 23, minute: 59, ..RECORD };
-    let leap = Record { leap: 0, start_day: 1, weekday: 2, ..last_minute };
-    let before_week_54 = Record { leap: 0, start_day: 7, weekday: 7, ..last_minute };
-    [RECORD, last_minute, leap, before_week_54, Record { minute: 57, ..before_week_54 }]
+/// The last minutes of years of 52 weeks, a common and a leap one (1986, 2012),
+/// and of 53 weeks (1981, 1992).
+fn last_minutes() -> [Record; 4] {
+    let common = Record { week: 52, weekday: 7, hour: 23, minute: 59, ..RECORD };
+    let leap = Record { leap: 0, start_day: 7, ..common };
+    let long = Record { leap: 1, start_day: 4, week: 53, ..common };
+    let long_leap = Record { leap: 0, start_day: 3, ..long };
+    [common, leap, long, long_leap]
+}
+
+/// Records to hold: an ordinary one, the last minutes of years, one with two
+/// minutes left, and the last minute of week 52 where week 53 follows.
+fn records() -> [Record; 7] {
+    let [common, leap, long, long_leap] = last_minutes();
+    let two_left = Record { minute: 57, ..common };
+    let before_week_53 = Record { week: 52, ..long };
+    [RECORD, common, leap, long, long_leap, two_left, before_week_53]
 }
 
 /// The state with the first `count` of these bits waiting.
@@ -67,7 +77,7 @@ fn proper_states() -> Vec<State> {
         holding(CANDIDATE, RECORD, 0, locked(0, 0)),
         holding(CANDIDATE, records()[3], 29, locked(3, 49)),
         holding(CONFIRMED, records()[1], 73, locked(1, 20)),
-        holding(CONFIRMED, records()[4], 119, locked(2, 49)),
+        holding(CONFIRMED, records()[5], 119, locked(2, 49)),
     ]
 }
 
@@ -111,7 +121,7 @@ fn every_combination_of_the_parts_of_a_state() {
             for (waiting, count) in [(0, 0), (1, 1), (49, 49), (50, 50), (51, 50), (255, 50)] {
                 for time in [NO_TIME, CANDIDATE, CONFIRMED, 3] {
                     for age in [0, 1, 29, 30, 59, 60, 89, 90, 118, 119, 120, 255] {
-                        for record in [Record::default(), RECORD, out_of_range, NO_DAY] {
+                        for record in [Record::default(), RECORD, out_of_range, NO_WEEK] {
                             let state = State { mode, good, bad, ..hunting(count) };
                             let state = State { waiting, ..holding(time, record, age, state) };
                             proper += usize::from(go_on_or_be_refused(state, &bits));
@@ -143,11 +153,11 @@ fn places_beyond_those_waiting() {
 /// to five minutes later, of `minutes` later with one field changed, and others.
 fn blocks_to_come(record: Record, minutes: usize, random: &mut Random) -> Vec<u64> {
     let filler = block(0, 1 << 31);
-    let later = |minutes| calendar::minutes_later(record, minutes).unwrap_or(record);
+    let later = |minutes| calendar::minutes_later(record, minutes).expect("minutes to come");
     let changed = fields::one_changed(later(minutes).bytes()).map(Record::of_bytes);
     let told = (0..=5).map(later).chain(changed);
     let mut blocks: Vec<u64> = told.filter(calendar::usable).map(time_block).collect();
-    blocks.extend([random.usable_record(), NO_DAY].map(time_block));
+    blocks.extend([random.usable_record(), NO_WEEK].map(time_block));
     blocks.extend([filler, filler ^ 1, filler ^ PREFIX, block(1, 0), random.block()]);
     blocks.extend([(); 5].map(|()| unusable_time_block(random)));
     blocks
@@ -188,31 +198,47 @@ fn after_minutes(record: Record, minutes: u8, sent: u64) -> State {
     *receiver.state()
 }
 
-/// The day after 30 December 2012 has no record.
+/// Minutes of the last hour of a day, each with how many minutes of the four
+/// that a time is held lead over midnight.
+fn over_midnight() -> impl Iterator<Item = (u8, u8)> {
+    (56..60).flat_map(|minute| (60 - minute..=4).map(move |minutes| (minute, minutes)))
+}
+
+/// The first day of the next kind of year confirms, and no other day of any.
 #[test]
-fn nothing_confirms_where_one_of_the_minutes_does_not_exist() {
-    let years = |date: &Date| (1986..1986 + 28).contains(&date.year);
-    let days = calendar::all_days().filter(years).map(calendar::record_of_date);
-    let days: Vec<Record> = days.filter_map(Result::ok).collect();
-    let pairs = (56..60).flat_map(|minute| (1..=4).map(move |minutes| (minute, minutes)));
-    for (minute, minutes) in pairs {
-        let held = Record { minute, ..records()[3] };
-        let told = (minute + minutes) % 60;
-        if told == minute + minutes {
-            let state = after_minutes(held, minutes, time_block(Record { minute: told, ..held }));
-            assert_eq!(state.time, CONFIRMED, "{minutes} minutes after {held:?}");
-            continue;
+fn one_day_alone_confirms_over_the_end_of_a_year() {
+    let years = |date: &Date| (1986..1986 + 28).contains(&calendar::coded_year(*date));
+    let days = calendar::days_with_record().filter(years).map(calendar::record_of_date);
+    let days: Vec<Record> = days.map(|day| day.expect("a record")).collect();
+    let next_kinds = [(3, 4), (1, 2), (2, 5), (1, 5)];
+    for (last, (leap, start_day)) in last_minutes().into_iter().zip(next_kinds) {
+        for (minute, minutes) in over_midnight() {
+            let held = Record { minute, ..last };
+            let confirms = |day: &Record| {
+                let told = Record { minute: minute + minutes - 60, ..*day };
+                after_minutes(held, minutes, time_block(told)).time == CONFIRMED
+            };
+            let confirming: Vec<Record> = days.iter().copied().filter(confirms).collect();
+            let first = Record { leap, start_day, week: 1, weekday: 1, ..Record::default() };
+            assert_eq!(confirming, [first], "{minutes} minutes after {held:?}");
         }
-        for &day in &days {
-            let state = after_minutes(held, minutes, time_block(Record { minute: told, ..day }));
-            assert_eq!(state.time, CANDIDATE, "{day:?}, {minutes} minutes after {held:?}");
+    }
+}
+
+/// A block that tells one week more than the year has is not usable.
+#[test]
+fn no_week_confirms_behind_the_last_of_a_year() {
+    const ONE_WEEK: u32 = 1 << 20;
+    for last in last_minutes() {
+        for (minute, minutes) in over_midnight() {
+            let held = Record { minute, ..last };
+            let monday = Record { weekday: 1, hour: 0, minute: minute + minutes - 60, ..held };
+            let word = record::write(monday).expect("fields in range") + ONE_WEEK;
+            let state = after_minutes(held, minutes, block(0, word));
+            let expected =
+                if minutes < 4 { (CONFIRMED, held) } else { (NO_TIME, Record::default()) };
+            assert_eq!((state.time, state.record), expected, "{minutes} minutes after {held:?}");
         }
-        // A block that tells the day itself, in week 54, is not usable.
-        let monday = Record { weekday: 1, hour: 0, minute: told, ..held };
-        let word = record::write(monday).expect("fields in range") + (1 << 20);
-        let state = after_minutes(held, minutes, block(0, word));
-        let time = if minutes < 4 { CONFIRMED } else { NO_TIME };
-        assert_eq!(state.time, time, "week 54, {minutes} minutes after {held:?}");
     }
 }
 

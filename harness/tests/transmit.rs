@@ -6,10 +6,10 @@ use std::path::Path;
 use std::process::{Command, Output};
 use std::time::{Duration, Instant};
 
-use harness::face::Date;
-use harness::feeds::{plain, MINUTE};
-use harness::independent::calendar::record_of_date;
-use harness::independent::BLOCK;
+use harness::face::{Date, Record};
+use harness::feeds::plain;
+use harness::independent::calendar::{coded_year, days_with_record, minute_after, record_of_date};
+use harness::independent::{read, record, BLOCK};
 use harness::program::{generator, output, product, project};
 
 /// The generator, or a line that says that it was not compared.
@@ -44,10 +44,10 @@ fn clean_feeds() {
     let Some(program) = transmit() else { return };
     for (arguments, first, minutes) in [
         (["1986-01-01", "12:34", "2", "5"], date(1986, 1, 1, 12, 34, 2), 5),
-        (["1901-01-01", "00:00", "0", "1"], date(1901, 1, 1, 0, 0, 0), 1),
-        (["2099-12-31", "23:59", "-32", "1"], date(2099, 12, 31, 23, 59, -32), 1),
+        (["1900-12-31", "00:00", "0", "1"], date(1900, 12, 31, 0, 0, 0), 1),
+        (["2100-01-03", "23:59", "-32", "1"], date(2100, 1, 3, 23, 59, -32), 1),
         (["2000-02-28", "23:00", "31", "1500"], date(2000, 2, 28, 23, 0, 31), 1500),
-        (["1986-12-31", "23:58", "-2", "4"], date(1986, 12, 31, 23, 58, -2), 4),
+        (["1986-12-28", "23:58", "-2", "4"], date(1986, 12, 28, 23, 58, -2), 4),
         (["2024-02-29", "09:59", "-0", "2"], date(2024, 2, 29, 9, 59, 0), 2),
     ] {
         let record = record_of_date(first).expect("a record");
@@ -65,15 +65,50 @@ fn the_stored_feed() {
     assert!(stored == plain(record, 3), "crates/transmit/stdout is not what `plain` writes");
 }
 
-/// Before the last day of a leap year that starts on a Sunday it says that it ends.
+/// What the last block of a minute tells.
+fn told(minute: &str) -> Record {
+    let bits: Vec<u8> = minute.bytes().map(|byte| byte - b'0').collect();
+    let (code, word) = read(&bits[bits.len() - BLOCK..]).expect("a good block");
+    record::read(code, word).expect("a time block")
+}
+
+/// The year of the date and that of the week begin on different days.
 #[test]
-fn a_day_without_a_record() {
+fn feeds_over_the_new_years_of_1982_1987_2012_and_2013() {
     let Some(program) = transmit() else { return };
-    let output = run(&program, &["2012-12-30", "23:58", "0", "5"]);
-    let record = record_of_date(date(2012, 12, 30, 23, 58, 0)).expect("a record");
-    assert!(output.stdout == plain(record, 5).as_bytes());
-    assert_eq!(output.stdout.len(), 2 * (MINUTE * BLOCK + 1));
-    assert_eq!(String::from_utf8_lossy(&output.stderr).lines().count(), 1);
+    for (last_day, leap, start_day, week, weekday) in [
+        ("1981-12-31", 1, 4, 53, 5),
+        ("1982-01-03", 2, 5, 1, 1),
+        ("1986-12-28", 3, 4, 1, 1),
+        ("1986-12-31", 3, 4, 1, 4),
+        ("2011-12-31", 3, 6, 52, 7),
+        ("2012-01-01", 0, 7, 1, 1),
+        ("2012-12-30", 1, 2, 1, 1),
+        ("2012-12-31", 1, 2, 1, 2),
+    ] {
+        let feed = sent(&program, &[last_day, "23:58", "-2", "4"]);
+        let behind_midnight = feed.lines().skip(2).map(told);
+        let midnight = Record { leap, start_day, week, weekday, hour: 0, minute: 0, offset: -2 };
+        let expected = [midnight, Record { minute: 1, ..midnight }];
+        assert!(behind_midnight.eq(expected), "after {last_day}");
+    }
+}
+
+#[test]
+fn feeds_over_every_new_year() {
+    let Some(program) = transmit() else { return };
+    let mut count = 0;
+    for day in days_with_record() {
+        let last = Date { hour: 23, minute: 59, ..day };
+        let next = minute_after(last);
+        if (next.year, coded_year(next)) != (day.year, coded_year(day)) {
+            let text = format!("{}-{:02}-{:02}", day.year, day.month, day.day);
+            let expected = plain(record_of_date(last).expect("a record"), 2);
+            assert!(sent(&program, &[&text, "23:59", "0", "2"]) == expected, "{text}");
+            count += 1;
+        }
+    }
+    println!("feeds over new years, of the date or of the week: {count} compared");
 }
 
 #[test]
@@ -144,11 +179,15 @@ fn wrong_arguments_are_named() {
             "1986",
             "1986-1-1",
             "1986/01/01",
-            "1900-12-31",
-            "2100-01-01",
+            "1899-12-31",
+            "1900-02-29",
+            "1900-12-30",
+            "2100-01-04",
+            "2100-02-29",
+            "2101-01-01",
             "1986-13-01",
             "1986-02-29",
-            "2012-12-31",
+            "1986-12-32",
             "1986-01-01-01-01-01-01",
             "x986-01-01",
             "18ab-01-01",

@@ -32,8 +32,8 @@ fn main() {
     show(&repeated[1..BLOCK]);
     show(&repeated[BLOCK..]);
 
-    // Another feed: 31 December 1986, 23:58, and the new year.
-    let last = Record { week: 53, weekday: 3, hour: 23, minute: 58, offset: -2, ..first };
+    // Another feed: 28 December 1986, 23:58, and the first week of 1987.
+    let last = Record { week: 52, weekday: 7, hour: 23, minute: 58, offset: -2, ..first };
     let feed = Sender(last).minutes(&mut random, 4);
     let (whole, broken) = feed.split_at(3 * MINUTE * BLOCK);
     show(whole);

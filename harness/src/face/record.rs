@@ -119,7 +119,7 @@ pub fn write_record(record: Record) -> Word {
     unsafe { lw_write_record(record) }
 }
 
-/// The date of a record within the 28 years from `first_year` on.
+/// The date of a record within the 28 coded years from `first_year` on.
 pub fn date_of_record(record: Record, first_year: u16) -> Dated {
     unsafe { lw_date_of_record(record, first_year) }
 }

@@ -1,38 +1,40 @@
-//! The calendar by walking: one day after the other from 1 January 1901, a
-//! Tuesday, and a new week at every Monday. Nothing here is found by a formula.
+//! The calendar by walking: one day after the other from 1 January 1900, a
+//! Monday, and by ISO 8601 one week after the other. Nothing here is found by a
+//! formula.
 
 use std::collections::HashMap;
+use std::iter::successors;
+use std::ops::RangeInclusive;
 use std::sync::LazyLock;
 
 use super::record::{in_range, time_in_range};
 use crate::face::{Date, Record};
 use crate::refusals::{NOT_IN_YEAR, OUT_OF_RANGE, WRONG_YEAR};
 
-/// The years that can be written.
-pub const YEARS: std::ops::RangeInclusive<u16> = 1901..=2099;
+/// The years in which the days that are asked about may lie.
+const CIVIL_YEARS: RangeInclusive<u16> = 1900..=2100;
 
-/// The years that can be the first of 28.
-pub const FIRST_YEARS: std::ops::RangeInclusive<u16> = 1901..=2072;
+/// The years to which the weeks that a record can tell belong.
+const CODED_YEARS: RangeInclusive<u16> = 1901..=2099;
 
-/// A day of the walk, with the leap code and start day of its year.
-#[derive(Clone, Copy)]
+/// The coded years that can be the first of 28.
+pub const FIRST_YEARS: RangeInclusive<u16> = 1901..=2072;
+
+/// Where the walk begins.
+const FIRST: Date = Date { year: 1900, month: 1, day: 1, hour: 0, minute: 0, offset: 0 };
+
+/// A day of the walk, with the year of its week. Its date and what would be its
+/// record are those of 00:00 with offset 0.
 struct Day {
-    year: u16,
-    month: u8,
-    day: u8,
-    leap: u8,
-    start_day: u8,
-    week: u8,
-    weekday: u8,
+    date: Date,
+    coded_year: u16,
+    record: Record,
 }
-
-/// Where the walk begins. 1901 counts as a year after a leap year.
-const FIRST: Day = Day { year: 1901, month: 1, day: 1, leap: 1, start_day: 2, week: 1, weekday: 2 };
 
 /// The four numbers by which a record names a day of a year.
 type Place = (u8, u8, u8, u8);
 
-/// The walked days, by their dates and by their places.
+/// The walked days, by their dates and, where they have records, by their places.
 struct Calendar {
     days: Vec<Day>,
     by_date: HashMap<(u16, u8, u8), usize>,
@@ -40,32 +42,34 @@ struct Calendar {
 }
 
 static CALENDAR: LazyLock<Calendar> = LazyLock::new(|| {
-    let walk = std::iter::successors(Some(FIRST), |day| Some(day.next()));
-    let days: Vec<Day> = walk.take_while(|day| YEARS.contains(&day.year)).collect();
+    // A year more, so that the last week is whole and has a day behind it.
+    let walk = successors(Some(FIRST), |&date| Some(day_after(date)));
+    let dates: Vec<Date> = walk.take_while(|date| date.year <= 2101).collect();
+    let days = in_weeks(&dates);
     let mut by_date = HashMap::new();
     let mut by_place: HashMap<Place, Vec<usize>> = HashMap::new();
     for (index, day) in days.iter().enumerate() {
-        by_date.insert((day.year, day.month, day.day), index);
-        let place = (day.leap, day.start_day, day.week, day.weekday);
-        by_place.entry(place).or_default().push(index);
+        by_date.insert((day.date.year, day.date.month, day.date.day), index);
+        if day.has_record() {
+            by_place.entry(place(&day.record)).or_default().push(index);
+        }
     }
     Calendar { days, by_date, by_place }
 });
 
 impl Day {
-    fn next(self) -> Day {
-        let weekday = if self.weekday == 7 { 1 } else { self.weekday + 1 };
-        if (self.month, self.day) == (12, 31) {
-            let leap = if self.leap == 3 { 0 } else { self.leap + 1 };
-            let year = self.year + 1;
-            return Day { year, month: 1, day: 1, leap, start_day: weekday, week: 1, weekday };
-        }
-        let week = if weekday == 1 { self.week + 1 } else { self.week };
-        if self.day == length_of(self.month, self.year) {
-            Day { month: self.month + 1, day: 1, week, weekday, ..self }
-        } else {
-            Day { day: self.day + 1, week, weekday, ..self }
-        }
+    fn has_record(&self) -> bool {
+        CODED_YEARS.contains(&self.coded_year)
+    }
+}
+
+fn day_after(date: Date) -> Date {
+    if date.day < length_of(date.month, date.year) {
+        Date { day: date.day + 1, ..date }
+    } else if date.month < 12 {
+        Date { month: date.month + 1, day: 1, ..date }
+    } else {
+        Date { year: date.year + 1, month: 1, day: 1, ..date }
     }
 }
 
@@ -81,18 +85,58 @@ fn length_of(month: u8, year: u16) -> u8 {
     }
 }
 
-/// The days, as places in the walk, that a record can mean.
-fn days_of(record: &Record) -> Option<&'static [usize]> {
-    let place = (record.leap, record.start_day, record.week, record.weekday);
-    CALENDAR.by_place.get(&place).map(Vec::as_slice)
+/// Successive days, the first a Monday, in whole weeks. The week that holds
+/// 4 January is the first of that year.
+fn in_weeks(dates: &[Date]) -> Vec<Day> {
+    let weeks = dates.chunks_exact(7);
+    let start_days = start_days(weeks.clone());
+    let mut days = Vec::new();
+    // 1900 counts as a leap year, so that 1901 is one after it.
+    let mut coded_year = 0;
+    let mut told = Record { leap: 3, ..Record::default() };
+    for week in weeks {
+        if let Some(fourth) = week.iter().find(|date| (date.month, date.day) == (1, 4)) {
+            coded_year = fourth.year;
+            told.leap = if told.leap == 3 { 0 } else { told.leap + 1 };
+            told.start_day = start_days[&coded_year];
+            told.week = 1;
+        } else {
+            told.week += 1;
+        }
+        let day = |(weekday, &date)| Day { date, coded_year, record: Record { weekday, ..told } };
+        days.extend((1..).zip(week).map(day));
+    }
+    days
 }
 
-/// Whether the fields are in range and the day is in its year.
+/// The weekday of 1 January of each year.
+fn start_days<'a>(weeks: impl Iterator<Item = &'a [Date]>) -> HashMap<u16, u8> {
+    let days = weeks.flat_map(|week| week.iter().zip(1..));
+    let first_days = days.filter(|(date, _)| (date.month, date.day) == (1, 1));
+    first_days.map(|(date, weekday)| (date.year, weekday)).collect()
+}
+
+fn place(record: &Record) -> Place {
+    (record.leap, record.start_day, record.week, record.weekday)
+}
+
+/// The days, as places in the walk, that a record can mean.
+fn days_of(record: &Record) -> Option<&'static [usize]> {
+    CALENDAR.by_place.get(&place(record)).map(Vec::as_slice)
+}
+
+/// The place in the walk of a date's day.
+fn day_of(date: Date) -> Option<usize> {
+    CALENDAR.by_date.get(&(date.year, date.month, date.day)).copied()
+}
+
+/// Whether the fields are in range and the year has the week.
 pub fn usable(record: &Record) -> bool {
     in_range(record) && days_of(record).is_some()
 }
 
-/// The date of a record within the 28 years from `first_year` on, or the refusal.
+/// The date of a record within the 28 coded years from `first_year` on, or the
+/// refusal.
 pub fn date_of_record(record: Record, first_year: u16) -> Result<Date, u8> {
     if !FIRST_YEARS.contains(&first_year) {
         return Err(WRONG_YEAR);
@@ -101,28 +145,28 @@ pub fn date_of_record(record: Record, first_year: u16) -> Result<Date, u8> {
         return Err(OUT_OF_RANGE);
     }
     let mut days = days_of(&record).ok_or(NOT_IN_YEAR)?.iter().map(|&at| &CALENDAR.days[at]);
-    let &Day { year, month, day, .. } = days
-        .find(|day| (first_year..first_year + 28).contains(&day.year))
+    let day = days
+        .find(|day| (first_year..first_year + 28).contains(&day.coded_year))
         .expect("any 28 successive years hold a year of each kind");
     let Record { hour, minute, offset, .. } = record;
-    Ok(Date { year, month, day, hour, minute, offset })
+    Ok(Date { hour, minute, offset, ..day.date })
 }
 
 /// The record of a date, or the refusal.
 pub fn record_of_date(date: Date) -> Result<Record, u8> {
-    let Date { year, month, day, hour, minute, offset } = date;
-    if !YEARS.contains(&year) {
+    let Date { year, hour, minute, offset, .. } = date;
+    if !CIVIL_YEARS.contains(&year) {
         return Err(WRONG_YEAR);
     }
-    let at = *CALENDAR.by_date.get(&(year, month, day)).ok_or(OUT_OF_RANGE)?;
+    let at = day_of(date).ok_or(OUT_OF_RANGE)?;
     if !time_in_range(hour, minute, offset) {
         return Err(OUT_OF_RANGE);
     }
-    let Day { leap, start_day, week, weekday, .. } = CALENDAR.days[at];
-    if week == 54 {
-        return Err(NOT_IN_YEAR);
+    let day = &CALENDAR.days[at];
+    if !day.has_record() {
+        return Err(WRONG_YEAR);
     }
-    Ok(Record { leap, start_day, week, weekday, hour, minute, offset })
+    Ok(Record { hour, minute, offset, ..day.record })
 }
 
 /// The record of the minute after a record's own, or the refusal.
@@ -138,34 +182,36 @@ pub fn next_minute(record: Record) -> Result<Record, u8> {
     if record.hour < 23 {
         return Ok(Record { hour: record.hour + 1, minute: 0, ..record });
     }
-    let Day { leap, start_day, week, weekday, .. } = CALENDAR.days[at + 1];
-    if week == 54 {
-        return Err(NOT_IN_YEAR);
-    }
-    Ok(Record { leap, start_day, week, weekday, hour: 0, minute: 0, offset: record.offset })
+    Ok(Record { offset: record.offset, ..CALENDAR.days[at + 1].record })
 }
 
-/// The next minute taken so many times, or the refusal of the first step that
-/// does not exist.
+/// The next minute taken so many times, or the refusal.
 pub fn minutes_later(record: Record, count: usize) -> Result<Record, u8> {
     (0..count).try_fold(record, |told, _| next_minute(told))
 }
 
-/// Every day of the years that can be written, at 00:00 with offset 0.
-pub fn all_days() -> impl Iterator<Item = Date> {
-    let date = |&Day { year, month, day, .. }: &Day| Date { year, month, day, ..Date::default() };
-    CALENDAR.days.iter().map(date)
+/// Every day of the civil years, at 00:00 with offset 0.
+pub fn civil_days() -> impl Iterator<Item = Date> {
+    CALENDAR.days.iter().map(|day| day.date).filter(|date| CIVIL_YEARS.contains(&date.year))
 }
 
-/// The minute after a date's own, if it is in the years that can be written.
-pub fn minute_after(date: Date) -> Option<Date> {
+/// Every day that has a record, at 00:00 with offset 0.
+pub fn days_with_record() -> impl Iterator<Item = Date> {
+    CALENDAR.days.iter().filter(|day| day.has_record()).map(|day| day.date)
+}
+
+/// The year to which the week of a day in the civil years belongs.
+pub fn coded_year(date: Date) -> u16 {
+    CALENDAR.days[day_of(date).expect("a day of the walk")].coded_year
+}
+
+/// The minute after a date's own.
+pub fn minute_after(date: Date) -> Date {
     if date.minute < 59 {
-        return Some(Date { minute: date.minute + 1, ..date });
+        Date { minute: date.minute + 1, ..date }
+    } else if date.hour < 23 {
+        Date { hour: date.hour + 1, minute: 0, ..date }
+    } else {
+        Date { hour: 0, minute: 0, ..day_after(date) }
     }
-    if date.hour < 23 {
-        return Some(Date { hour: date.hour + 1, minute: 0, ..date });
-    }
-    let at = CALENDAR.by_date[&(date.year, date.month, date.day)];
-    let &Day { year, month, day, .. } = CALENDAR.days.get(at + 1)?;
-    Some(Date { year, month, day, hour: 0, minute: 0, offset: date.offset })
 }

@@ -67,8 +67,8 @@ impl Standing {
         let age = self.age + u8::from(self.time != NO_TIME);
         if let Some(record) = read.and_then(usable) {
             let held = Record { offset: record.offset, ..self.record };
-            let confirmed = matches!(age, 30 | 60 | 90 | 120)
-                && clock::minutes_later(held, age / 30) == Some(record);
+            let confirmed =
+                matches!(age, 30 | 60 | 90 | 120) && clock::minutes_later(held, age / 30) == record;
             let time = if confirmed { CONFIRMED } else { CANDIDATE };
             Standing { time, record, age: 0, ..self }
         } else if age == 120 {
