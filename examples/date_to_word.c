@@ -6,8 +6,8 @@
 #include "reasons.h"
 #include "sample.h"
 
-/* A record names no year: its date is sought in the 28 years from here on. */
-enum { FIRST_YEAR = 1970 };
+/* A record names no year: the week's year is sought in the 28 from here on. */
+enum { FIRST_YEAR = 1986 };
 
 static void show_date(const char *title, lw_date date)
 {
@@ -84,7 +84,9 @@ int main(void)
 {
     /* 12:34 UTC on New Year's Day, local time one hour ahead. */
     show((lw_date){.year = 1986, .month = 1, .day = 1, .hour = 12, .minute = 34, .offset = 2});
-    /* This day would fall in week 54. */
+    /* This day is in the first week of 2013. */
     show((lw_date){.year = 2012, .month = 12, .day = 31});
+    /* The last year that can be coded is 2099, and its last week ends on 3 January. */
+    show((lw_date){.year = 2100, .month = 1, .day = 4});
     return 0;
 }

@@ -14,7 +14,7 @@ static inline const char *reason_of(uint8_t refusal)
     case LW_WRONG_CHECK_WORD: return "the check word is not the remainder";
     case LW_NOT_A_RECORD: return "code not 0, or a filler";
     case LW_OUT_OF_RANGE: return "out of range";
-    case LW_NOT_IN_YEAR: return "the day is not in its year, or falls in week 54";
+    case LW_NOT_IN_YEAR: return "week 53 in a year without one";
     case LW_WRONG_YEAR: return "the year is out of range";
     case LW_RUN_TOO_LONG: return "a run is longer than 65,536 bits";
     case LW_IMPROPER: return "the state is not proper";

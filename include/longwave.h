@@ -41,8 +41,9 @@ enum {
     LW_WRONG_CHECK_WORD = 4,  /* the check word is not the remainder */
     LW_NOT_A_RECORD = 5,      /* code not 0, or a filler, where a record is read */
     LW_OUT_OF_RANGE = 6,      /* a field, code, month or day is out of range */
-    LW_NOT_IN_YEAR = 7,       /* the day is not in its year, or falls in week 54 */
-    LW_WRONG_YEAR = 8,        /* the first of the 28 years, or a written year, is out of range */
+    LW_NOT_IN_YEAR = 7,       /* week 53 in a year without one */
+    LW_WRONG_YEAR = 8,        /* the first of the 28 years, or the civil or coded year of a
+                                 written date, is out of range */
     LW_RUN_TOO_LONG = 9,      /* a run is longer than 65,536 bits */
     LW_IMPROPER = 10,         /* the lent state is not proper */
     LW_NUMBER_TOO_WIDE = 14,  /* a number has a bit above place 49 */
@@ -112,12 +113,18 @@ uint8_t lw_unpack(uint64_t block, uint8_t *bits, size_t len);
 
 /* What a time block says of the minute that begins with the first bit of the
  * next block. Time is UTC. The offset of local time is carried along with
- * records and dates, and never applied to them. */
+ * records and dates, and never applied to them.
+ *
+ * Weeks are those of ISO 8601: Monday starts the week, and week 1 is the one that
+ * holds 4 January. The coded year, of which leap code and start day speak, is the
+ * week's; so up to three days of it lie in the civil year before, and up to three
+ * in the one after. It has 53 weeks if it starts on a Thursday, or is leap and
+ * starts on a Wednesday, else 52. */
 typedef struct lw_record {
-    uint8_t leap;      /* 0 this year is leap, 1 last year was, 2 two or more years away,
-                          3 next year is */
-    uint8_t start_day; /* weekday of 1 January, 1 (Monday) to 7 */
-    uint8_t week;      /* 1 to 53; week 1 is the Monday-to-Sunday week that holds 1 January */
+    uint8_t leap;      /* 0 the coded year is leap, 1 the year before was, 2 two or more
+                          years away, 3 the next year is */
+    uint8_t start_day; /* weekday of 1 January of the coded year, 1 (Monday) to 7 */
+    uint8_t week;      /* 1 to 53 */
     uint8_t weekday;   /* 1 (Monday) to 7 */
     uint8_t hour;      /* 0 to 23 */
     uint8_t minute;    /* 0 to 59 */
@@ -126,7 +133,7 @@ typedef struct lw_record {
 
 /* A date. Hour, minute and offset are those of its record. */
 typedef struct lw_date {
-    uint16_t year; /* 1901 to 2099 */
+    uint16_t year; /* the civil year, 1900 to 2100 */
     uint8_t month; /* 1 to 12 */
     uint8_t day;   /* 1 to the last of the month */
     uint8_t hour;
@@ -150,26 +157,28 @@ typedef struct lw_dated {
     struct lw_date date;
 } lw_dated;
 
-/* Reads the record in a block's code and word. Whether its day is in its year
+/* Reads the record in a block's code and word. Whether its year has its week
  * is not tested. Refusals, in this order: 5, 6. */
 lw_recorded lw_read_record(uint8_t code, uint32_t word);
 
-/* Answers the word of a record; its block has code 0. Whether its day is in its
- * year is not tested. Refusal: 6. */
+/* Answers the word of a record; its block has code 0. Whether its year has its
+ * week is not tested. Refusal: 6. */
 lw_word lw_write_record(lw_record record);
 
 /* Answers the date of a record. A record names no year: leap code and start day
- * fix one of the 28 years from `first_year` (1901 to 2072) on.
+ * fix one coded year of the 28 from `first_year` (1901 to 2072) on. The date may
+ * lie in the civil year before or after it.
  * Refusals, in this order: 8, 6, 7. */
 lw_dated lw_date_of_record(lw_record record, uint16_t first_year);
 
-/* Answers the record of a date. 31 December of a leap year that starts on a
- * Sunday would fall in week 54 and is refused with 7.
- * Refusals, in this order: 8, 6, 7. */
+/* Answers the record of a date: every date of 1901 to 2099 has one, and so have
+ * 31 December 1900 and 1 to 3 January 2100.
+ * Refusals, in this order: 8 for a civil year outside 1900 to 2100, 6, and 8 for
+ * a coded year outside 1901 to 2099. */
 lw_recorded lw_record_of_date(lw_date date);
 
-/* Answers the record of the next minute, with the same offset. At 23:59, where
- * the next day falls in week 54, there is none: 7.
+/* Answers the record of the next minute, with the same offset. The last minute of
+ * a coded year is followed by week 1, weekday 1 of the next kind of year.
  * Refusals, in this order: 6, 7. */
 lw_recorded lw_next_minute(lw_record record);
 
@@ -194,7 +203,7 @@ enum {
  * A state is proper when every field has a value given here, the first `waiting`
  * of `bits` are 0 or 1, and whatever is not in use is 0: the other bits, and
  * with LW_NO_TIME the whole record and the age. Time is held only when locked,
- * and its record is usable: fields in range, and a day that is in its year.
+ * and its record is usable: fields in range, and a week that its year has.
  *
  * A time, candidate or confirmed, is held over three missed minutes, until 120
  * blocks have come since its record. The minute that begins now is that of the
