@@ -1,6 +1,6 @@
 // The time: held, aged, confirmed and forgotten, block by block; and when it is proper.
 ghost use mathlib.Core.Path.{_≡_};
-ghost use Prim.Native.Nat.{_+_};
+ghost use Prim.Native.Nat.{_+_, _≤_};
 ghost use Rattle.calendar.specs.Dates.{usableOf};
 ghost use Rattle.calendar.specs.MinutesLater.{thenNext, minutesLater};
 ghost use Rattle.timekeeping.specs.Proper.{isZeroRecord, isNoTime, isGiven, timeProper};
@@ -86,12 +86,14 @@ fn then_next(given: Recorded) -> Recorded
     }
 }
 
-// So many minutes later: the next minute taken that often.
+// So many minutes later, one or more: the next minute taken that often.
 fn minutes_later(minutes: u8, held: Record) -> Recorded
+    requires { ⌜ 1 ≤ minutes ⌝ }
     ensures { λ r. ⌜ r ≡ minutesLater minutes held ⌝ }
 {
-    let mut later = Recorded::Given(held);
-    let mut taken: u8 = 0;
+    // Called from two places the next minute is not copied into the receiver's loop, which would cost every bit.
+    let mut later = calendar::next_minute(held);
+    let mut taken: u8 = 1;
     while taken < minutes {
         later = then_next(later);
         taken += 1;
@@ -101,6 +103,7 @@ fn minutes_later(minutes: u8, held: Record) -> Recorded
 
 // The record's minute is so many minutes after the held record's.
 fn comes_later(minutes: u8, held: Record, r: Record) -> bool
+    requires { ⌜ 1 ≤ minutes ⌝ }
     ensures { λ t. ⌜ t ≡ follows minutes held r ⌝ }
 {
     match minutes_later(minutes, held) {

@@ -20,7 +20,7 @@ add-offered : tie.Need-add-offered
 add-offered c = search needs
 
 comes-later-requires : tie.Need-comes-later-requires
-comes-later-requires c κs = search needs
+comes-later-requires c κs = omega arith
 
 returns-2 : tie.Need-returns-2
 unfolding confirms

@@ -1,21 +1,24 @@
--- `minutes_later` meets its contract: whatever record the loop begins with, it holds the one so many minutes later.
+-- `minutes_later` meets its contract: whatever record the first minute came from, the loop holds the one so many minutes later.
 -- Assumes nothing.
 use borrow.Author.Needs.{needs}
 use native.Mathlib.Numerals.{add-one}
 use native.Mathlib.Omega.{arith}
-use mathlib.Core.Path.{_≡_, refl, _∙_}
+use mathlib.Core.Path.{_≡_, _∙_}
 use Prim.Native.Nat.{_-_, _≤_}
 use Rattle.record.specs.declared.Record.{Record}
-use Rattle.record.specs.declared.Recorded.the-variants.{Given}
+use Rattle.calendar.specs.NextMinute.{nextMinuteOf}
 use Rattle.calendar.specs.MinutesLater.{minutesLater}
 use Rattle.timekeeping.proofs.minutes_later.Statement.{statement}
 use Rattle.timekeeping.proofs.minutes_later.Tie as tie
 
 abbrev Inv-loop : tie.InvT-loop
-Inv-loop minutes later₀ taken₀ later taken = (taken ≤ minutes) × ((r : Record) → later₀ ≡ Given r → later ≡ minutesLater taken r)
+Inv-loop minutes later₀ taken₀ later taken = (taken ≤ minutes) × ((r : Record) → later₀ ≡ nextMinuteOf r → later ≡ minutesLater taken r)
 
 abbrev μ-loop : tie.MeasureT-loop
 μ-loop minutes later₀ taken₀ later taken = minutes - taken
+
+next-minute-requires : tie.Need-next-minute-requires Inv-loop μ-loop
+next-minute-requires c κs = search needs
 
 loop-holds : tie.Need-loop-holds Inv-loop μ-loop
 unfolding minutesLater
@@ -38,10 +41,10 @@ loop-again c =
 
 returns : tie.Need-returns Inv-loop μ-loop
 returns c =
-    let end : c .before .loop .taken ≡ c .before .before .args .minutes = omega arith in
-    rw (← end) (c .before .loop .inv .1 (c .before .before .args .held) refl)
+    let end : c .before .loop .taken ≡ c .before .before .before .args .minutes = omega arith in
+    rw (← end) (c .before .loop .inv .1 (c .before .before .before .args .held) (c .before .before .next-minute .ensures))
 
 pub minutes-later-spec : {M : Type 1} → statement M
 minutes-later-spec =
     tie.close
-    (tie.spec Inv-loop μ-loop loop-holds then-next-requires add-taken loop-less loop-again returns)
+    (tie.spec Inv-loop μ-loop next-minute-requires loop-holds then-next-requires add-taken loop-less loop-again returns)
