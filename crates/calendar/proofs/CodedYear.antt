@@ -4,6 +4,7 @@ use Prim.Native.Nat.{ℕ, _+_, _-_, _≤_, _<_}
 use native.Mathlib.Omega.{arith}
 use mathlib.Core.Path.{_≡_}
 use mathlib.Core.Logic.{_⊎_, inl, inr}
+use Rattle.record.specs.declared.Edition.{Edition}
 use Rattle.record.proofs.Tests.{le-or-lt}
 use Rattle.calendar.specs.declared.Date.{Date}
 use Rattle.calendar.specs.Years.{firstCivilYear, leapYear, daysOfYears, newYear}
@@ -46,9 +47,10 @@ module _ (d : Date) (a : firstCivilYear ≤ d .year) (b : Bounds d) where
   pub coded-is : (y : ℕ) → Holds weekOne (dayOfDate d) y → codedYear d ≡ y
   coded-is y h = only weekOne one-rises (dayOfDate d) (codedYear d) y coded-holds h
 
-  -- the record of a date so many days after the Monday of week 1
-  pub record-on : (y since : ℕ) → dayOfDate d ≡ weekOne y + since → weekOne y + since < weekOne (y + 1) → recordAt d ≡ recordOn y since d
-  unfolding recordAt
-  record-on y since e h =
-      let same : weekOne y + since - weekOne y ≡ since = omega arith in
-      rw (coded-is y (record { from = omega arith; to = omega arith }), e, same)
+-- the record of a date so many days after the Monday of week 1
+pub record-on : (edition : Edition) (d : Date) → firstCivilYear ≤ d .year → Bounds d → (y since : ℕ) → dayOfDate d ≡ weekOne y + since
+    → weekOne y + since < weekOne (y + 1) → recordAt edition d ≡ recordOn edition y since d
+unfolding recordAt
+record-on edition d a b y since e h =
+    let same : weekOne y + since - weekOne y ≡ since = omega arith in
+    rw (coded-is d a b y (record { from = omega arith; to = omega arith }), e, same)

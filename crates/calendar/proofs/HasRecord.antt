@@ -7,6 +7,7 @@ use mathlib.Core.Bool.{Bool, true, false, cond}
 use mathlib.Core.Logic.{_⊎_, inl, inr, ⊎-elim, _↔_}
 use borrow.Author.Tests.{le-leb}
 use Rattle.refusal.specs.declared.Refusal.the-variants.{OutOfRange, WrongYear}
+use Rattle.record.specs.declared.Edition.{Edition}
 use Rattle.record.specs.declared.Record.{Record}
 use Rattle.record.specs.declared.Recorded.the-variants.{Given, Refused}
 use Rattle.record.specs.Given.{givenRecord}
@@ -34,10 +35,6 @@ never false range coded r e = omega arith
 never true false coded r e = omega arith
 never true true true r e = omega arith
 never true true false r e = omega arith
-
-pub never-seven : (d : Date) → givenRecord (recordOf d) .0 ≡ 7 → ⊥
-unfolding recordOf
-never-seven d e = never (within firstCivilYear (d .year) lastCivilYear) (dateInRange d) (within firstYear (codedYear d) lastYear) (recordAt d) e
 
 -- ---- the days that have records
 
@@ -103,19 +100,6 @@ module _ (d : Date) (b : Bounds d) where
       let on : monthDay 1 n ≡ monthDay (d .month) (d .day) = rw (e, le-leb n 31 (omega arith)) at (month-again d b) in
       record { year = e; month = sym (ap (λ (m : MonthDay). m .month) on); day = omega (arith, ap (λ (m : MonthDay). m .day) on) }
 
-has : (d : Date) (r : Record) → recordOf d ≡ Given r → (dateInRange d ≡ true) × Recordable d
-has d r e =
-    let c = record-given d r e .0 in
-    let year = civil d c in
-    let day = day-from-coded d (year .0) (c .bounds) c in (
-      in-range d (c .bounds),
-      ⊎-elim
-          (λ h. inr (inl (is-last d (c .bounds) (omega arith) (day .0))))
-          (λ h.
-          ⊎-elim (λ k. inl (h, k)) (λ k. inr (inr (is-first d (c .bounds) (omega arith) (day .1)))) (le-or-lt (d .year) 2099))
-          (le-or-lt (d .year) 1900),
-    )
-
 -- the days of the dates that are named are among those that have records
 named-day : (d : Date) → Bounds d → Recordable d → (firstCivilYear ≤ d .year) × (364 ≤ dayOfDate d) × (dayOfDate d < 73052)
 unfolding daysOfYears leapYear sumOf
@@ -128,11 +112,29 @@ named-day d b (inl year) =
 named-day d b (inr (inl l)) = rw (l .year, l .month, l .day) (omega arith, omega arith, omega arith)
 named-day d b (inr (inr f)) = rw (f .year, f .month) (omega arith, omega (arith, b .day .0), omega (arith, b .day .0, f .day))
 
-pub recorded-exactly : (d : Date) → ((r : Record) × (recordOf d ≡ Given r)) ↔ ((dateInRange d ≡ true) × Recordable d)
-recorded-exactly d = (
-  λ g. has d (g .0) (g .1),
-  λ w.
-      let b = bounds d (w .0) in
-      let day = named-day d b (w .1) in
-      (recordAt d, record-is d (coded-from-day d (day .0) b (day .1) (day .2))),
-)
+module _ (edition : Edition) where
+  pub never-seven : (d : Date) → givenRecord (recordOf edition d) .0 ≡ 7 → ⊥
+  unfolding recordOf
+  never-seven d e = never (within firstCivilYear (d .year) lastCivilYear) (dateInRange d) (within firstYear (codedYear d) lastYear) (recordAt edition d) e
+
+  has : (d : Date) (r : Record) → recordOf edition d ≡ Given r → (dateInRange d ≡ true) × Recordable d
+  has d r e =
+      let c = record-given edition d r e .0 in
+      let year = civil d c in
+      let day = day-from-coded d (year .0) (c .bounds) c in (
+        in-range d (c .bounds),
+        ⊎-elim
+            (λ h. inr (inl (is-last d (c .bounds) (omega arith) (day .0))))
+            (λ h.
+            ⊎-elim (λ k. inl (h, k)) (λ k. inr (inr (is-first d (c .bounds) (omega arith) (day .1)))) (le-or-lt (d .year) 2099))
+            (le-or-lt (d .year) 1900),
+      )
+
+  pub recorded-exactly : (d : Date) → ((r : Record) × (recordOf edition d ≡ Given r)) ↔ ((dateInRange d ≡ true) × Recordable d)
+  recorded-exactly d = (
+    λ g. has d (g .0) (g .1),
+    λ w.
+        let b = bounds d (w .0) in
+        let day = named-day d b (w .1) in
+        (recordAt edition d, record-is edition d (coded-from-day d (day .0) b (day .1) (day .2))),
+  )

@@ -1,6 +1,7 @@
--- The laws, in reading order: years, months and weeks, the coded year, what an answer says, then what the calls promise together.
+-- The laws, in reading order: years and their leap codes, months and weeks, the coded year, what an answer says, then what the calls promise together, and how the editions correspond.
 pub mod Choice
 pub mod Years
+pub mod LeapCodes
 pub mod KindOfYear
 pub mod OneYear
 pub mod Months
@@ -18,4 +19,5 @@ pub mod NextDay
 pub mod Stepping
 pub mod MinutesLater
 pub mod GoesOn
+pub mod Editions
 pub mod Determined

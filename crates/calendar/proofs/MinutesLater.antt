@@ -3,6 +3,7 @@
 use Prim.Native.Nat.{ℕ, zero, suc, _≤_}
 use native.Mathlib.Omega.{arith}
 use mathlib.Core.Path.{_≡_, sym, ap, _∙_}
+use Rattle.record.specs.declared.Edition.{Edition}
 use Rattle.record.specs.declared.Record.{Record}
 use Rattle.record.specs.declared.Recorded.the-variants.{Given}
 use Rattle.calendar.specs.declared.Date.{Date}
@@ -38,14 +39,15 @@ module _ (d : Date) (c : InCalendar d) where
   in-calendar-then : (k : ℕ) → codedYear (minutesLaterOfDate k d) ≤ lastYear → InCalendar (minutesLaterOfDate k d)
   in-calendar-then k h = record { from = omega (arith, c .from, coded-later k); to = h; bounds = in-range-then k .1 }
 
--- and then the two answers are one
-pub later-of-date : (k : ℕ) (d : Date) (r : Record) → recordOf d ≡ Given r → codedYear (minutesLaterOfDate k d) ≤ lastYear
-    → minutesLater k r ≡ recordOf (minutesLaterOfDate k d)
-unfolding minutesLater minutesLaterOfDate
-later-of-date zero d r e h = sym e
-later-of-date (suc k) d r e h =
-    let at = minutesLaterOfDate k d in
-    let c = record-given d r e .0 in
-    let before : codedYear at ≤ lastYear = omega (arith, one-later d c k) in
-    let given = record-is at (in-calendar-then d c k before) in
-    ap thenNext (later-of-date k d r e before ∙ given) ∙ next-of-date at (recordAt at) given h
+module _ (edition : Edition) where
+  -- and then the two answers are one
+  pub later-of-date : (k : ℕ) (d : Date) (r : Record) → recordOf edition d ≡ Given r → codedYear (minutesLaterOfDate k d) ≤ lastYear
+      → minutesLater edition k r ≡ recordOf edition (minutesLaterOfDate k d)
+  unfolding minutesLater minutesLaterOfDate
+  later-of-date zero d r e h = sym e
+  later-of-date (suc k) d r e h =
+      let at = minutesLaterOfDate k d in
+      let c = record-given edition d r e .0 in
+      let before : codedYear at ≤ lastYear = omega (arith, one-later d c k) in
+      let given = record-is edition at (in-calendar-then d c k before) in
+      ap (thenNext edition) (later-of-date k d r e before ∙ given) ∙ next-of-date edition at (recordAt edition at) given h

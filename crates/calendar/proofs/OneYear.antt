@@ -9,8 +9,11 @@ use mathlib.Core.Bool.{Bool, true, false, _&&_}
 use mathlib.Core.Logic.{⊎-elim}
 use borrow.Author.Tests.{eq-eqb, eqb-true}
 use lib.Dec.{eqb}
-use Rattle.calendar.specs.Years.{firstYear, lastFirstYear, lastYear, span, startDay, leapCode, yearFrom}
+use Rattle.record.specs.declared.Edition.{Edition}
+use Rattle.calendar.specs.LeapCodes.{leapCode}
+use Rattle.calendar.specs.Years.{firstYear, lastFirstYear, lastYear, span, startDay, yearFrom}
 use Rattle.calendar.proofs.Years.{start-closed}
+use Rattle.calendar.proofs.LeapCodes.{sinceLeap, year-since, same-code}
 
 -- ---- at most one
 
@@ -32,7 +35,7 @@ fives m k a b e =
     let fifteen : k + 7 * (2 * k) ≡ 0 + 7 * (3 * q) = omega arith in
     small k a b (sym (wrap k (2 * k)) ∙ ap (λ (t : ℕ). t % 7) fifteen ∙ wrap 0 (3 * q))
 
-differ : (x y : ℕ) → firstYear ≤ x → y ≤ lastYear → x < y → y < x + span → startDay x ≡ startDay y → leapCode x ≡ leapCode y → ⊥
+differ : (x y : ℕ) → firstYear ≤ x → y ≤ lastYear → x < y → y < x + span → startDay x ≡ startDay y → x % 4 ≡ y % 4 → ⊥
 differ x y a b c d s l =
     let n = x - 1901 in
     let m = y - 1901 in
@@ -53,15 +56,18 @@ not-both true false h = refl
 not-both false q h = refl
 
 -- the year is found again from its own start day and leap code
-found : (n x y : ℕ) → n ≤ span → firstYear ≤ x → x ≤ y → y < x + n → y ≤ lastYear → yearFrom n x (startDay y) (leapCode y) ≡ y
+found : (edition : Edition) (n x y : ℕ) → n ≤ span → firstYear ≤ x → x ≤ y → y < x + n → y ≤ lastYear
+    → yearFrom edition n x (startDay y) (leapCode edition y) ≡ y
 unfolding yearFrom
-found zero x y h a b c d = absurd (omega arith)
-found (suc n) x y h a b c d =
+found edition zero x y h a b c d = absurd (omega arith)
+found edition (suc n) x y h a b c d =
     ⊎-elim
-    (λ e. rw (eq-eqb (startDay x) (startDay y) (ap startDay e), eq-eqb (leapCode x) (leapCode y) (ap leapCode e)) e)
+    (λ e. rw (eq-eqb (startDay x) (startDay y) (ap startDay e), eq-eqb (leapCode edition x) (leapCode edition y) (ap (leapCode edition) e)) e)
     (λ l.
-    rw (not-both (eqb (startDay x) (startDay y)) (eqb (leapCode x) (leapCode y)) (λ p q. differ x y a d l (omega arith) (eqb-true _ _ p) (eqb-true _ _ q)))
-    (found n (x + 1) y (omega arith) (omega arith) (omega arith) (omega arith) d))
+    rw
+    (not-both (eqb (startDay x) (startDay y)) (eqb (leapCode edition x) (leapCode edition y))
+    (λ p q. differ x y a d l (omega arith) (eqb-true _ _ p) (same-code edition x y (eqb-true _ _ q))))
+    (found edition n (x + 1) y (omega arith) (omega arith) (omega arith) (omega arith) d))
     (eq-or-lt-of-le b)
 
 -- ---- at least one
@@ -72,9 +78,9 @@ steps c d =
     let e : c + 5 * (3 * d % 7) + 7 * (5 * (3 * d / 7)) ≡ c + d + 7 * (2 * d) = omega arith in
     sym (wrap (c + 5 * (3 * d % 7)) (5 * (3 * d / 7))) ∙ ap (λ (t : ℕ). t % 7) e ∙ wrap (c + d) (2 * d)
 
--- one of four successive years has the leap code
-four : (first leap : ℕ) → leap ≤ 3 → (x : ℕ) × (first ≤ x) × (x ≤ first + 3) × (leapCode x ≡ leap)
-four first leap h = (first + (leap + 4 - first % 4) % 4, omega arith, omega arith, omega arith)
+-- one of four successive years comes so many years after a leap year
+four : (first since : ℕ) → since ≤ 3 → (x : ℕ) × (first ≤ x) × (x ≤ first + 3) × (x % 4 ≡ since)
+four first since h = (first + (since + 4 - first % 4) % 4, omega arith, omega arith, omega arith)
 
 lands : (v start : ℕ) → 1 ≤ start → start ≤ 7 → (v + (start + 6 - v % 7)) % 7 + 1 ≡ start
 lands v start a b = omega arith
@@ -98,26 +104,27 @@ seven x start a b c d = (3 * (start + 6 - v % 7) % 7, small, reached)
 
 -- ---- the theorem
 
-pub record Named (first start leap y : ℕ) : Type 0 where
+pub record NamedBy (edition : Edition) (first start leap y : ℕ) : Type 0 where
   pub from : first ≤ y
   pub to : y < first + span
   pub start-day : startDay y ≡ start
-  pub leap-code : leapCode y ≡ leap
+  pub leap-code : leapCode edition y ≡ leap
 
-module _ (first start leap : ℕ) (a : firstYear ≤ first) (b : first ≤ lastFirstYear) where
+module _ (edition : Edition) (first start leap : ℕ) (a : firstYear ≤ first) (b : first ≤ lastFirstYear) where
   -- any year that they name is the one that the lookup finds
-  pub only-one : (y : ℕ) → Named first start leap y → yearFrom span first start leap ≡ y
+  pub only-one : (y : ℕ) → NamedBy edition first start leap y → yearFrom edition span first start leap ≡ y
   only-one y n =
-      ap (λ (s : ℕ). yearFrom span first s leap) (sym (n .start-day))
-      ∙ ap (λ (l : ℕ). yearFrom span first (startDay y) l) (sym (n .leap-code))
-      ∙ found 28 first y (omega arith) a (n .from) (n .to) (omega (arith, n .to))
+      ap (λ (s : ℕ). yearFrom edition span first s leap) (sym (n .start-day))
+      ∙ ap (λ (l : ℕ). yearFrom edition span first (startDay y) l) (sym (n .leap-code))
+      ∙ found edition 28 first y (omega arith) a (n .from) (n .to) (omega (arith, n .to))
 
   -- and they name one
-  pub one : 1 ≤ start → start ≤ 7 → leap ≤ 3 → Named first start leap (yearFrom span first start leap)
+  pub one : 1 ≤ start → start ≤ 7 → leap ≤ 3 → NamedBy edition first start leap (yearFrom edition span first start leap)
   one c d e =
-      let x = four first leap e in
+      let since = year-since edition leap e in
+      let x = four first (sinceLeap edition leap) (since .0) in
       let k = seven (x .0) start (omega (arith, x .1)) (omega (arith, x .2)) c d in
       let y = x .0 + 4 * k .0 in
-      let n : Named first start leap y =
-      record { from = omega (arith, x .1); to = omega (arith, x .2, k .1); start-day = k .2; leap-code = omega (arith, x .3) } in
+      let n : NamedBy edition first start leap y =
+      record { from = omega (arith, x .1); to = omega (arith, x .2, k .1); start-day = k .2; leap-code = since .1 y (omega (arith, x .3)) } in
       rw (only-one y n) n

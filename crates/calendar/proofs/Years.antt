@@ -18,11 +18,10 @@ use Rattle.calendar.specs.Years.{
   newYear,
   weekdayAfter,
   startDay,
-  leapCode,
 }
 
 -- the only full century is 2000, which is leap: the century rule does not show
-pub leap-four : (y : ℕ) → firstYear ≤ y → y ≤ lastYear → leapYear y ≡ eqb (leapCode y) 0
+pub leap-four : (y : ℕ) → firstYear ≤ y → y ≤ lastYear → leapYear y ≡ eqb (y % 4) 0
 unfolding leapYear
 leap-four y a b = by (eqb (y % 100) 0) refl
   where

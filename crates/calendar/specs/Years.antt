@@ -1,9 +1,11 @@
--- Years: which are leap, when they begin, and the kind of year that a record carries (01, "The time record" and "The calendar";
+-- Years: which are leap, when they begin, and which one is of the kind that a record carries (01, "The time record" and "The calendar";
 -- 02, No. 2).
 -- Assumes nothing.
 use Prim.Native.Nat.{ℕ, zero, suc, _+_, _-_, _%_}
 use mathlib.Core.Bool.{Bool, cond, _&&_}
 use lib.Dec.{eqb}
+use Rattle.record.specs.declared.Edition.{Edition}
+use Rattle.calendar.specs.LeapCodes.{leapCode}
 
 -- the calendar's fixed numbers: years from 1901 to 2099 are coded, and a record names one of 28 that begin in 1901 to 2072
 abbrev pub firstYear : ℕ
@@ -50,11 +52,8 @@ weekdayAfter n weekday = (weekday - 1 + n) % 7 + 1
 unfoldable pub startDay : ℕ → ℕ
 startDay y = weekdayAfter (newYear y) 1
 
--- 0 in a leap year, 1 in the year after, 3 in the year before: 1901 counts as a year after, and 2099 as one before
-abbrev pub leapCode : ℕ → ℕ
-leapCode y = y % 4
-
 -- the first of the n years from y on that has this start day and leap code; 0 if none has
-unfoldable pub yearFrom : ℕ → ℕ → ℕ → ℕ → ℕ
-yearFrom zero y start leap = 0
-yearFrom (suc n) y start leap = cond (eqb (startDay y) start && eqb (leapCode y) leap) y (yearFrom n (y + 1) start leap)
+unfoldable pub yearFrom : Edition → ℕ → ℕ → ℕ → ℕ → ℕ
+yearFrom edition zero y start leap = 0
+yearFrom edition (suc n) y start leap =
+    cond (eqb (startDay y) start && eqb (leapCode edition y) leap) y (yearFrom edition n (y + 1) start leap)

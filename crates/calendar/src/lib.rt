@@ -1,23 +1,27 @@
-// Dates of records and records of dates (document 01, "The calendar").
+// Dates of records and records of dates (document 01, "The calendar"), under either edition.
 ghost use mathlib.Core.Path.{_≡_};
 ghost use mathlib.Core.Bool.{true};
 ghost use Prim.Native.Nat.{_≤_};
 ghost use Rattle.record.specs.declared.Recorded.the-variants.{Given};
 ghost use Rattle.record.specs.Ranges.{within, inRange};
 ghost use Rattle.calendar.specs.Years.{firstYear, lastFirstYear, lastYear, firstCivilYear, lastCivilYear};
-ghost use Rattle.calendar.specs.Dates.{newDate, usableOf, OfKind, dayOfRecord, dateFrom, dateIn, dateOf, dateInRange, dayOfDate, codedYear, recordOf};
+ghost use Rattle.calendar.specs.Dates.{newDate, usableOf, HasWeek, dayOfRecord, dateFrom, dateIn, dateOf, dateInRange, dayOfDate, codedYear, recordOf};
 ghost use Rattle.calendar.specs.NextMinute.{nextMinuteOf};
 ghost use Rattle.calendar.specs.Given.{zeroDate};
 
+mod leap;
 mod minute;
 mod month;
 mod week;
 mod year;
 
+use leap::leap_code;
+use leap::says_leap;
 use minute::go_on;
 use month::days_before;
 use month::month_day;
 use month::month_length;
+use record::Edition;
 use record::Record;
 use record::Recorded;
 use refusal::Refusal;
@@ -82,9 +86,9 @@ impl Date {
         Date::new(0, 0, 0, 0, 0, 0)
     }
 
-    // The date of a usable record in a coded year of its kind.
+    // The date of a record in a coded year that has its week.
     fn in_year(coded: u16, record: Record) -> Date
-        requires { ⌜ OfKind coded «record» × (usableOf «record» ≡ Given «record») ⌝ }
+        requires { ⌜ HasWeek coded «record» ⌝ }
         ensures { λ r. ⌜ r ≡ dateFrom coded «record» ⌝ }
     {
         let day = day_of_record(coded, record);
@@ -101,11 +105,11 @@ impl Date {
     }
 
     // The date of a usable record, whose coded year is the one of the 28 that has the record's start day and leap code.
-    fn in_span(first_year: u16, record: Record) -> Date
-        requires { ⌜ (firstYear ≤ «first_year») × («first_year» ≤ lastFirstYear) × (usableOf «record» ≡ Given «record») ⌝ }
-        ensures { λ r. ⌜ r ≡ dateIn «first_year» «record» ⌝ }
+    fn in_span(edition: Edition, first_year: u16, record: Record) -> Date
+        requires { ⌜ (firstYear ≤ «first_year») × («first_year» ≤ lastFirstYear) × (usableOf edition «record» ≡ Given «record») ⌝ }
+        ensures { λ r. ⌜ r ≡ dateIn edition «first_year» «record» ⌝ }
     {
-        let coded = year_of(first_year, record.start_day, record.leap);
+        let coded = year_of(edition, first_year, record.start_day, record.leap);
         Date::in_year(coded, record)
     }
 
@@ -118,11 +122,11 @@ impl Date {
 }
 
 // The record itself where its fields are in range and its year has the week.
-pub fn usable(record: Record) -> Recorded
-    ensures { λ r. ⌜ r ≡ usableOf «record» ⌝ }
+pub fn usable(edition: Edition, record: Record) -> Recorded
+    ensures { λ r. ⌜ r ≡ usableOf edition «record» ⌝ }
 {
     if record::in_range(record) {
-        let weeks = weeks_of(record.leap == 0, record.start_day);
+        let weeks = weeks_of(says_leap(edition, record.leap), record.start_day);
         if record.week <= weeks {
             Recorded::Given(record)
         } else {
@@ -134,12 +138,12 @@ pub fn usable(record: Record) -> Recorded
 }
 
 // The date of the record in the 28 years from the first year on.
-pub fn date_of_record(record: Record, first_year: u16) -> Dated
-    ensures { λ r. ⌜ r ≡ dateOf «record» «first_year» ⌝ }
+pub fn date_of_record(edition: Edition, record: Record, first_year: u16) -> Dated
+    ensures { λ r. ⌜ r ≡ dateOf edition «record» «first_year» ⌝ }
 {
     if Date::may_be_first(first_year) {
-        match usable(record) {
-            Recorded::Given(r) => Dated::Given(Date::in_span(first_year, r)),
+        match usable(edition, record) {
+            Recorded::Given(r) => Dated::Given(Date::in_span(edition, first_year, r)),
             Recorded::Refused(why) => Dated::Refused(why),
         }
     } else {
@@ -148,14 +152,14 @@ pub fn date_of_record(record: Record, first_year: u16) -> Dated
 }
 
 // The record of the date.
-pub fn record_of_date(date: Date) -> Recorded
-    ensures { λ r. ⌜ r ≡ recordOf date ⌝ }
+pub fn record_of_date(edition: Edition, date: Date) -> Recorded
+    ensures { λ r. ⌜ r ≡ recordOf edition date ⌝ }
 {
     let in_civil_years = record::within(Date::FIRST_CIVIL_YEAR, date.year, Date::LAST_CIVIL_YEAR);
     let in_range = date_in_range(date);
     if in_civil_years {
         if in_range {
-            written(date)
+            written(edition, date)
         } else {
             Recorded::Refused(Refusal::OutOfRange)
         }
@@ -165,11 +169,11 @@ pub fn record_of_date(date: Date) -> Recorded
 }
 
 // The record one minute later.
-pub fn next_minute(record: Record) -> Recorded
-    ensures { λ r. ⌜ r ≡ nextMinuteOf «record» ⌝ }
+pub fn next_minute(edition: Edition, record: Record) -> Recorded
+    ensures { λ r. ⌜ r ≡ nextMinuteOf edition «record» ⌝ }
 {
-    match usable(record) {
-        Recorded::Given(r) => Recorded::Given(go_on(r)),
+    match usable(edition, record) {
+        Recorded::Given(r) => Recorded::Given(go_on(edition, r)),
         Recorded::Refused(why) => Recorded::Refused(why),
     }
 }
@@ -191,28 +195,28 @@ fn date_in_range(date: Date) -> bool
 }
 
 // The record of a date of the civil years, where its week's year can be coded.
-fn written(date: Date) -> Recorded
+fn written(edition: Edition, date: Date) -> Recorded
     requires { ⌜ (firstCivilYear ≤ date .year) × (date .year ≤ lastCivilYear) × (dateInRange date ≡ true) ⌝ }
-    ensures { λ r. ⌜ r ≡ recordOf date ⌝ }
+    ensures { λ r. ⌜ r ≡ recordOf edition date ⌝ }
 {
     let day = day_of_date(date);
     let begin = week_one(date.year);
     let next = week_one(date.year + 1);
     let coded = year_around(date.year, begin, next, day);
     if record::within(Date::FIRST_YEAR, coded, Date::LAST_YEAR) {
-        return Recorded::Given(record_in(coded, day, date));
+        return Recorded::Given(record_in(edition, coded, day, date));
     }
     Recorded::Refused(Refusal::WrongYear)
 }
 
 // The record of a date on a day of its coded year.
-fn record_in(coded: u16, day: u32, date: Date) -> Record
+fn record_in(edition: Edition, coded: u16, day: u32, date: Date) -> Record
     requires { ⌜ (firstYear ≤ coded) × (coded ≤ lastYear) × (dateInRange date ≡ true) × (coded ≡ codedYear date) × (day ≡ dayOfDate date) ⌝ }
-    ensures { λ r. ⌜ recordOf date ≡ Given r ⌝ }
+    ensures { λ r. ⌜ recordOf edition date ≡ Given r ⌝ }
 {
     let since = day - week_one(coded);
     Record {
-        leap: (coded % 4) as u8,
+        leap: leap_code(edition, coded),
         start_day: start_day_of(coded),
         week: (since / 7 + 1) as u8,
         weekday: (since % 7 + 1) as u8,

@@ -3,14 +3,17 @@ ghost use mathlib.Core.Path.{_≡_};
 ghost use mathlib.Core.Bool.{true};
 ghost use Rattle.record.specs.Ranges.{inRange};
 ghost use Rattle.calendar.specs.NextMinute.{atTime, midnight, nextYear, nextDay, goOn};
+use crate::leap::next_leap_code;
+use crate::leap::says_leap;
 use crate::week::weeks_of;
 use crate::year::year_length;
+use record::Edition;
 use record::Record;
 
 // The minute goes on, then the hour, then the day.
-pub fn go_on(record: Record) -> Record
+pub fn go_on(edition: Edition, record: Record) -> Record
     requires { ⌜ inRange «record» ≡ true ⌝ }
-    ensures { λ r. ⌜ r ≡ goOn «record» ⌝ }
+    ensures { λ r. ⌜ r ≡ goOn edition «record» ⌝ }
 {
     if record.minute < 59 {
         return at_time(record.hour, record.minute + 1, record);
@@ -18,7 +21,7 @@ pub fn go_on(record: Record) -> Record
     if record.hour < 23 {
         return at_time(record.hour + 1, 0, record);
     }
-    next_day(record)
+    next_day(edition, record)
 }
 
 // The record at another time of its day.
@@ -52,9 +55,9 @@ fn midnight(leap: u8, start_day: u8, week: u8, weekday: u8, offset: i8) -> Recor
 }
 
 // The midnight after a usable record's day.
-fn next_day(record: Record) -> Record
+fn next_day(edition: Edition, record: Record) -> Record
     requires { ⌜ inRange «record» ≡ true ⌝ }
-    ensures { λ r. ⌜ r ≡ nextDay «record» ⌝ }
+    ensures { λ r. ⌜ r ≡ nextDay edition «record» ⌝ }
 {
     let leap = record.leap;
     let start_day = record.start_day;
@@ -62,19 +65,19 @@ fn next_day(record: Record) -> Record
     if record.weekday < 7 {
         return midnight(leap, start_day, record.week, record.weekday + 1, offset);
     }
-    if record.week < weeks_of(leap == 0, start_day) {
+    if record.week < weeks_of(says_leap(edition, leap), start_day) {
         return midnight(leap, start_day, record.week + 1, 1, offset);
     }
-    next_year(record)
+    next_year(edition, record)
 }
 
 // The midnight that begins week 1 of the next kind of year.
-fn next_year(record: Record) -> Record
+fn next_year(edition: Edition, record: Record) -> Record
     requires { ⌜ inRange «record» ≡ true ⌝ }
-    ensures { λ r. ⌜ r ≡ nextYear «record» ⌝ }
+    ensures { λ r. ⌜ r ≡ nextYear edition «record» ⌝ }
 {
-    let days = year_length(record.leap == 0);
-    let leap = (record.leap + 1) % 4;
+    let days = year_length(says_leap(edition, record.leap));
+    let leap = next_leap_code(edition, record.leap);
     let start_day = ((record.start_day as u16 - 1 + days) % 7 + 1) as u8;
     let offset = record.offset;
     midnight(leap, start_day, 1, 1, offset)

@@ -3,6 +3,8 @@ ghost use mathlib.Core.Path.{_≡_};
 ghost use Prim.Native.Nat.{_≤_, _+_};
 ghost use Rattle.calendar.specs.Years.{firstYear, lastFirstYear, firstCivilYear, lastCivilYear, span, leapYear, yearLength, newYear, startDay, yearFrom};
 use crate::Date;
+use crate::leap::leap_code;
+use record::Edition;
 
 // The Gregorian rule.
 pub fn is_leap(year: u16) -> bool
@@ -39,15 +41,15 @@ pub fn start_day_of(year: u16) -> u8
 }
 
 // The one of the 28 years that has this start day and leap code.
-pub fn year_of(first_year: u16, start_day: u8, leap: u8) -> u16
+pub fn year_of(edition: Edition, first_year: u16, start_day: u8, leap: u8) -> u16
     requires { ⌜ (firstYear ≤ «first_year») × («first_year» ≤ lastFirstYear) ⌝ }
-    ensures { λ r. ⌜ r ≡ yearFrom span «first_year» «start_day» leap ⌝ }
+    ensures { λ r. ⌜ r ≡ yearFrom edition span «first_year» «start_day» leap ⌝ }
 {
     let mut i: u16 = 0;
     while i < Date::SPAN {
         let year = first_year + i;
         if start_day_of(year) == start_day {
-            if year % 4 == leap as u16 {
+            if leap_code(edition, year) == leap {
                 return year;
             }
         }

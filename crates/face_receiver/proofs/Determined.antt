@@ -14,9 +14,8 @@ use contract.Lifetimes.{Lfts}
 use contract.Monad.{Fun, fact}
 use denote.Ref.{RefT, now}
 use Rattle.refusal.proofs.Determined.{Determined, Leaves}
-use Rattle.receiver.specs.Runs.{runOf, fedOf}
 use Rattle.receiver.specs.declared.Counts.{Counts}
-use Rattle.receiver.specs.Packed.{runPacked, fedPacked}
+use Rattle.face_receiver.specs.Under.{runUnder, fedUnder, runPackedUnder, fedPackedUnder}
 use Rattle.face_receiver.proofs.lw_feed as feed
 use Rattle.face_receiver.proofs.lw_feed_packed as feed-packed
 use Rattle.face_receiver.proofs.lw_fresh.Reads as fresh
@@ -36,41 +35,41 @@ module _ {State : Type 0} where
   Left counts next r state = (r ≡ counts) × (now state ≡ next)
 
   -- one bit
-  module _ (counts : State → ℕ → Counts) (next : State → ℕ → State) where
-    abbrev pub FeedPost : (κs : Lfts 1) → RefT State × (ℕ × Unit {0}) → Counts → RefT State × (ℕ × Unit {0}) → Type 0
-    FeedPost κs a r e = Left (counts (now (a .0)) (a .1 .0)) (next (now (a .0)) (a .1 .0)) r (e .0)
+  module _ (counts : ℕ → State → ℕ → Counts) (next : ℕ → State → ℕ → State) where
+    abbrev pub FeedPost : (κs : Lfts 1) → ℕ × (RefT State × (ℕ × Unit {0})) → Counts → ℕ × (RefT State × (ℕ × Unit {0})) → Type 0
+    FeedPost κs a r e = Left (counts (a .0) (now (a .1 .0)) (a .1 .1 .0)) (next (a .0) (now (a .1 .0)) (a .1 .1 .0)) r (e .1 .0)
 
     pub feed-determined : Determined FeedPost
     feed-determined κs a x y s t p q = p .0 ∙ sym (q .0)
 
-    pub feed-leaves : Leaves FeedPost (λ κs s. now (s .0))
+    pub feed-leaves : Leaves FeedPost (λ κs s. now (s .1 .0))
     feed-leaves κs a x y s t p q = p .1 ∙ sym (q .1)
 
   -- a run
-  module _ (counts : State → List ℕ → Counts) (next : State → List ℕ → State) where
-    abbrev pub RunPost : (κs : Lfts 2) → RefT State × (RefT (List ℕ) × Unit {0}) → Counts → RefT State × (RefT (List ℕ) × Unit {0}) → Type 0
-    RunPost κs a r e = Left (counts (now (a .0)) (now (a .1 .0))) (next (now (a .0)) (now (a .1 .0))) r (e .0)
+  module _ (counts : ℕ → State → List ℕ → Counts) (next : ℕ → State → List ℕ → State) where
+    abbrev pub RunPost : (κs : Lfts 2) → ℕ × (RefT State × (RefT (List ℕ) × Unit {0})) → Counts → ℕ × (RefT State × (RefT (List ℕ) × Unit {0})) → Type 0
+    RunPost κs a r e = Left (counts (a .0) (now (a .1 .0)) (now (a .1 .1 .0))) (next (a .0) (now (a .1 .0)) (now (a .1 .1 .0))) r (e .1 .0)
 
     pub run-determined : Determined RunPost
     run-determined κs a x y s t p q = p .0 ∙ sym (q .0)
 
-    pub run-leaves : Leaves RunPost (λ κs s. now (s .0))
+    pub run-leaves : Leaves RunPost (λ κs s. now (s .1 .0))
     run-leaves κs a x y s t p q = p .1 ∙ sym (q .1)
 
 -- these are the contracts, as the check reads them
 module _ {M : Type 1} (𝓤 : URA M) (H : Heap 𝓤) (A : Atoms 𝓤) (mem : Memory → SProp 𝓤) (run : Routine → Fun 𝓤) where
   pub feed-read : (κs : _) (a : _) (r : _) (e : _)
-      → feed.clauses 𝓤 H A mem run κs a .ensures tt r e ≡ fact 𝓤 (FeedPost (λ s b. fedOf s b .counts) (λ s b. fedOf s b .state) κs a r e)
+      → feed.clauses 𝓤 H A mem run κs a .ensures tt r e ≡ fact 𝓤 (FeedPost (λ n s b. fedUnder n s b .counts) (λ n s b. fedUnder n s b .state) κs a r e)
   feed-read κs a r e = refl
 
   pub feed-packed-read : (κs : _) (a : _) (r : _) (e : _)
-      → feed-packed.clauses 𝓤 H A mem run κs a .ensures tt r e ≡ fact 𝓤 (FeedPost (λ s b. fedPacked s b .counts) (λ s b. fedPacked s b .state) κs a r e)
+      → feed-packed.clauses 𝓤 H A mem run κs a .ensures tt r e ≡ fact 𝓤 (FeedPost (λ n s b. fedPackedUnder n s b .counts) (λ n s b. fedPackedUnder n s b .state) κs a r e)
   feed-packed-read κs a r e = refl
 
   pub run-read : (κs : _) (a : _) (r : _) (e : _)
-      → lw-run.clauses 𝓤 H A mem run κs a .ensures tt r e ≡ fact 𝓤 (RunPost (λ s bs. runOf s bs .counts) (λ s bs. runOf s bs .state) κs a r e)
+      → lw-run.clauses 𝓤 H A mem run κs a .ensures tt r e ≡ fact 𝓤 (RunPost (λ n s bs. runUnder n s bs .counts) (λ n s bs. runUnder n s bs .state) κs a r e)
   run-read κs a r e = refl
 
   pub run-packed-read : (κs : _) (a : _) (r : _) (e : _)
-      → run-packed.clauses 𝓤 H A mem run κs a .ensures tt r e ≡ fact 𝓤 (RunPost (λ s bs. runPacked s bs .counts) (λ s bs. runPacked s bs .state) κs a r e)
+      → run-packed.clauses 𝓤 H A mem run κs a .ensures tt r e ≡ fact 𝓤 (RunPost (λ n s bs. runPackedUnder n s bs .counts) (λ n s bs. runPackedUnder n s bs .state) κs a r e)
   run-packed-read κs a r e = refl

@@ -1,11 +1,18 @@
-// The receiver's calls as C sees them: the state is lent and changed where it stands, and its counts are handed back.
+// The receiver's calls as C sees them: the edition comes first, the state is lent and changed where it stands, and its counts are
+// handed back.
 ghost use mathlib.Core.Path.{_≡_};
-ghost use Rattle.receiver.specs.Packed.{freshPacked, fedPacked, runPacked};
-ghost use Rattle.receiver.specs.Runs.{fedOf, runOf};
+ghost use Rattle.face_receiver.specs.Under.{runUnder, fedUnder, runPackedUnder, fedPackedUnder};
+ghost use Rattle.receiver.specs.Packed.{freshPacked, refusedPacked};
+ghost use Rattle.receiver.specs.Runs.{refusedRun};
 ghost use Rattle.receiver.specs.States.{freshOf};
+ghost use Rattle.refusal.specs.Numbers.{numberOf};
 use receiver::Counts;
+use receiver::PackedRan;
 use receiver::PackedState;
+use receiver::Ran;
 use receiver::State;
+use record::Named;
+use refusal::Refusal;
 
 // Hunting, with nothing waiting and no time.
 #[no_mangle]
@@ -15,22 +22,49 @@ pub extern "C" fn lw_fresh() -> State
     receiver::fresh()
 }
 
+// No such edition: nothing is counted, and the state is as it was.
+fn refused_run(why: Refusal, state: State) -> Ran
+    ensures { λ r. ⌜ r ≡ refusedRun (numberOf why) state ⌝ }
+{
+    let counts = receiver::refused(why);
+    Ran { counts, state }
+}
+
+// What a lent state becomes, and its counts, where the edition is given by its number.
+fn feed_under(edition: u16, state: State, bit: u8) -> Ran
+    ensures { λ r. ⌜ r ≡ fedUnder edition state bit ⌝ }
+{
+    match record::edition_of(edition) {
+        Named::Given(edition) => receiver::step(edition, state, bit),
+        Named::Refused(why) => refused_run(why, state),
+    }
+}
+
+fn run_under(edition: u16, state: State, bits: &[u8]) -> Ran
+    ensures { λ r. ⌜ r ≡ runUnder edition state (now (bits .entry)) ⌝ }
+{
+    match record::edition_of(edition) {
+        Named::Given(edition) => receiver::run(edition, state, bits),
+        Named::Refused(why) => refused_run(why, state),
+    }
+}
+
 // One bit into the lent state, changed where it stands.
 #[no_mangle]
-pub extern "C" fn lw_feed(state: &mut State, bit: u8) -> Counts
-    ensures { λ r. ⌜ (r ≡ fedOf (now (state .entry)) bit .counts) × (now (state .exit) ≡ fedOf (now (state .entry)) bit .state) ⌝ }
+pub extern "C" fn lw_feed(edition: u16, state: &mut State, bit: u8) -> Counts
+    ensures { λ r. ⌜ (r ≡ fedUnder edition (now (state .entry)) bit .counts) × (now (state .exit) ≡ fedUnder edition (now (state .entry)) bit .state) ⌝ }
 {
-    let fed = receiver::step(*state, bit);
+    let fed = feed_under(edition, *state, bit);
     *state = fed.state;
     fed.counts
 }
 
 // A run of bits into the lent state.
 #[no_mangle]
-pub extern "C" fn lw_run(state: &mut State, bits: &[u8]) -> Counts
-    ensures { λ r. ⌜ (r ≡ runOf (now (state .entry)) (now (bits .entry)) .counts) × (now (state .exit) ≡ runOf (now (state .entry)) (now (bits .entry)) .state) ⌝ }
+pub extern "C" fn lw_run(edition: u16, state: &mut State, bits: &[u8]) -> Counts
+    ensures { λ r. ⌜ (r ≡ runUnder edition (now (state .entry)) (now (bits .entry)) .counts) × (now (state .exit) ≡ runUnder edition (now (state .entry)) (now (bits .entry)) .state) ⌝ }
 {
-    let ran = receiver::run(*state, bits);
+    let ran = run_under(edition, *state, bits);
     *state = ran.state;
     ran.counts
 }
@@ -44,20 +78,45 @@ pub extern "C" fn lw_fresh_packed() -> PackedState
     receiver::fresh_packed()
 }
 
-#[no_mangle]
-pub extern "C" fn lw_feed_packed(state: &mut PackedState, bit: u8) -> Counts
-    ensures { λ r. ⌜ (r ≡ fedPacked (now (state .entry)) bit .counts) × (now (state .exit) ≡ fedPacked (now (state .entry)) bit .state) ⌝ }
+fn refused_packed(why: Refusal, state: PackedState) -> PackedRan
+    ensures { λ r. ⌜ r ≡ refusedPacked (numberOf why) state ⌝ }
 {
-    let fed = receiver::step_packed(*state, bit);
+    let counts = receiver::refused(why);
+    PackedRan { counts, state }
+}
+
+fn feed_packed_under(edition: u16, state: PackedState, bit: u8) -> PackedRan
+    ensures { λ r. ⌜ r ≡ fedPackedUnder edition state bit ⌝ }
+{
+    match record::edition_of(edition) {
+        Named::Given(edition) => receiver::step_packed(edition, state, bit),
+        Named::Refused(why) => refused_packed(why, state),
+    }
+}
+
+fn run_packed_under(edition: u16, state: PackedState, bits: &[u8]) -> PackedRan
+    ensures { λ r. ⌜ r ≡ runPackedUnder edition state (now (bits .entry)) ⌝ }
+{
+    match record::edition_of(edition) {
+        Named::Given(edition) => receiver::run_packed(edition, state, bits),
+        Named::Refused(why) => refused_packed(why, state),
+    }
+}
+
+#[no_mangle]
+pub extern "C" fn lw_feed_packed(edition: u16, state: &mut PackedState, bit: u8) -> Counts
+    ensures { λ r. ⌜ (r ≡ fedPackedUnder edition (now (state .entry)) bit .counts) × (now (state .exit) ≡ fedPackedUnder edition (now (state .entry)) bit .state) ⌝ }
+{
+    let fed = feed_packed_under(edition, *state, bit);
     *state = fed.state;
     fed.counts
 }
 
 #[no_mangle]
-pub extern "C" fn lw_run_packed(state: &mut PackedState, bits: &[u8]) -> Counts
-    ensures { λ r. ⌜ (r ≡ runPacked (now (state .entry)) (now (bits .entry)) .counts) × (now (state .exit) ≡ runPacked (now (state .entry)) (now (bits .entry)) .state) ⌝ }
+pub extern "C" fn lw_run_packed(edition: u16, state: &mut PackedState, bits: &[u8]) -> Counts
+    ensures { λ r. ⌜ (r ≡ runPackedUnder edition (now (state .entry)) (now (bits .entry)) .counts) × (now (state .exit) ≡ runPackedUnder edition (now (state .entry)) (now (bits .entry)) .state) ⌝ }
 {
-    let after = receiver::run_packed(*state, bits);
+    let after = run_packed_under(edition, *state, bits);
     *state = after.state;
     after.counts
 }

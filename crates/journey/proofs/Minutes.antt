@@ -14,6 +14,7 @@ use Rattle.block.specs.Bits.{zeros}
 use Rattle.block.specs.Block.{Good}
 use Rattle.block.specs.Read.{readOf}
 use Rattle.block.proofs.RoundTrip.{written-good, read-back}
+use Rattle.record.specs.declared.Edition.{Edition}
 use Rattle.record.specs.declared.Record.{Record}
 use Rattle.record.specs.declared.Recorded.{Recorded}
 use Rattle.record.specs.declared.Recorded.the-variants.{Given, Refused}
@@ -36,17 +37,6 @@ use Rattle.journey.specs.Journey.{timeBlock, Other, Each, badRun, badRun
 use Rattle.journey.proofs.Worded.{word-fits, block-usable}
 use Rattle.journey.proofs.Fed.{feeds}
 
--- ---- what a block does to the time
-
-from-none : (t : Time) (r : Record) → t .kind ≡ none → offeredTo t (Given r) ≡ timeOf candidate r 0
-unfolding offeredTo renewedBy
-from-none t r e = rw e
-
-unusable-ages : (t : Time) (u : Recorded) → isGiven u ≡ false → offeredTo t u ≡ agedBy t
-unfolding offeredTo
-unusable-ages t (Given n) e = cc
-unusable-ages t (Refused why) e = refl
-
 module _ (kind : ℕ) (r : Record) (age : ℕ) (held : candidate ≤ kind) where
   ages : age + 1 < 120 → agedBy (timeOf kind r age) ≡ timeOf kind r (age + 1)
   unfolding agedBy
@@ -59,81 +49,93 @@ module _ (kind : ℕ) (r : Record) (age : ℕ) (held : candidate ≤ kind) where
 same : (n : ℕ) → eqb n n ≡ true
 same n = eq-eqb n n refl
 
-is-later : (minutes : ℕ) (r n : Record) → minutesLater minutes r ≡ Given n → follows minutes r n ≡ true
-unfolding follows sameMinute
-is-later minutes r n e = rw e (simp same)
+module _ (edition : Edition) where
+  -- ---- what a block does to the time
 
-later-confirms : (minutes kind age : ℕ) (r n : Record) → 1 ≤ minutes → minutes ≤ 4 → candidate ≤ kind → age + 1 ≡ 30 * minutes
-    → minutesLater minutes r ≡ Given n → offeredTo (timeOf kind r age) (Given n) ≡ timeOf confirmed n 0
-unfolding offeredTo renewedBy
-later-confirms minutes kind age r n from to held whole e =
-    rw (
-      ne-eqb kind none (λ z. omega arith),
-      confirms-exactly (age + 1) r n .1 (record { minutes = minutes; from = from; to = to; whole = whole; later = is-later minutes r n e }),
-    )
+  from-none : (t : Time) (r : Record) → t .kind ≡ none → offeredTo edition t (Given r) ≡ timeOf candidate r 0
+  unfolding offeredTo renewedBy
+  from-none t r e = rw e
 
--- ---- a time block
+  unusable-ages : (t : Time) (u : Recorded) → isGiven u ≡ false → offeredTo edition t u ≡ agedBy t
+  unfolding offeredTo
+  unusable-ages t (Given n) e = cc
+  unusable-ages t (Refused why) e = refl
 
--- it is good, and its record is offered
-time-feeds : (r : Record) (bits rest : List ℕ) (blocks : Blocks) (l : Lock) → Usable r → length bits ≡ 50 → l .mode ≡ locked
-    → runFrom (timeBlock r ++ rest) blocks 0 (stateOf l 0 bits)
-    ≡ runFrom rest (plus blocks (countRead (readOf (timeBlock r)))) 0 (nothingWaits (lockOf locked 0 0 (offeredTo (l .time) (Given r))))
-time-feeds r bits rest blocks l u places m =
-    let w : List ℕ = timeBlock r in
-    let g : Good w = written-good 0 (wordOf r) in
-    let ends : badRun (l .bad) (readOf w) ≡ 0 = rw (read-back 0 (wordOf r) (omega arith) (word-fits r u)) in
-    feeds w bits rest blocks l (g .size) (g .bits) places m (omega arith) ∙ rw (ends, block-usable r u)
+  is-later : (minutes : ℕ) (r n : Record) → minutesLater edition minutes r ≡ Given n → follows edition minutes r n ≡ true
+  unfolding follows sameMinute
+  is-later minutes r n e = rw e (simp same)
 
--- ---- the run
+  later-confirms : (minutes kind age : ℕ) (r n : Record) → 1 ≤ minutes → minutes ≤ 4 → candidate ≤ kind → age + 1 ≡ 30 * minutes
+      → minutesLater edition minutes r ≡ Given n → offeredTo edition (timeOf kind r age) (Given n) ≡ timeOf confirmed n 0
+  unfolding offeredTo renewedBy
+  later-confirms minutes kind age r n from to held whole e =
+      rw (
+        ne-eqb kind none (λ z. omega arith),
+        confirms-exactly edition (age + 1) r n .1 (record { minutes = minutes; from = from; to = to; whole = whole; later = is-later minutes r n e }),
+      )
 
--- the first time block, fed to an idle receiver, is a candidate
-pub first-block : (r : Record) (s : State) → Usable r → Idle s → runFrom (timeBlock r) noBlocks 0 s ≡ ended 0 (countRead (readOf (timeBlock r))) 0 (holding 0 candidate r 0)
-unfolding runFrom
-first-block r s u i =
-    ap (λ (l : List ℕ). runFrom l noBlocks 0 s) (sym (append-nil (timeBlock r)))
-    ∙ ap (λ (k : ℕ). runFrom (timeBlock r ++ []) noBlocks 0 (stateOf (lockIn s) k (s .bits))) (i .nothing-waits)
-    ∙ time-feeds r (s .bits) [] noBlocks (lockIn s) u (i .places) (i .is-locked)
-    ∙ rw (from-none (lockIn s .time) r (i .no-time)) (ap (λ (b : Blocks). ended 0 b 0 (holding 0 candidate r 0)) (none-plus (countRead (readOf (timeBlock r)))))
+  -- ---- a time block
 
-module _ (kind : ℕ) (held : candidate ≤ kind) (r : Record) where
-  -- one of the others ages the time
-  one-other : (w rest : List ℕ) (blocks : Blocks) (bad age : ℕ) → Other w → badRun bad (readOf w) < 4
-      → runFrom (w ++ rest) blocks 0 (holding bad kind r age)
-      ≡ runFrom rest (plus blocks (countRead (readOf w))) 0 (nothingWaits (lockOf locked 0 (badRun bad (readOf w)) (agedBy (timeOf kind r age))))
-  one-other w rest blocks bad age o l =
-      feeds w (zeros 50) rest blocks (lockOf locked 0 bad (timeOf kind r age)) (o .size) (o .bits) refl refl l
-      ∙ rw (unusable-ages (timeOf kind r age) (usableIn (readOf w)) (o .unusable))
+  -- it is good, and its record is offered
+  time-feeds : (r : Record) (bits rest : List ℕ) (blocks : Blocks) (l : Lock) → Usable edition r → length bits ≡ 50 → l .mode ≡ locked
+      → runFrom edition (timeBlock r ++ rest) blocks 0 (stateOf l 0 bits)
+      ≡ runFrom edition rest (plus blocks (countRead (readOf (timeBlock r)))) 0 (nothingWaits (lockOf locked 0 0 (offeredTo edition (l .time) (Given r))))
+  time-feeds r bits rest blocks l u places m =
+      let w : List ℕ = timeBlock r in
+      let g : Good w = written-good 0 (wordOf r) in
+      let ends : badRun (l .bad) (readOf w) ≡ 0 = rw (read-back 0 (wordOf r) (omega arith) (word-fits r (u .in-range))) in
+      feeds edition w bits rest blocks l (g .size) (g .bits) places m (omega arith) ∙ rw (ends, block-usable edition r u)
 
-  -- after others the record has grown older by as many blocks
-  pub other-blocks : (ws rest : List (List ℕ)) (blocks : Blocks) (bad age : ℕ) → Each Other ws → LockHolds bad ws → age + length ws < 120
-      → runFrom (flatten (ws ++ rest)) blocks 0 (holding bad kind r age)
-      ≡ runFrom (flatten rest) (plus blocks (countBlocks ws)) 0 (holding (badRunAfter bad ws) kind r (age + length ws))
-  unfolding flatten
-  other-blocks [] rest blocks bad age o l h = rw (plus-none blocks, add-zero age)
-  other-blocks (w ∷ ws) rest blocks bad age o l h =
-      let a : age + 1 + length ws ≡ age + length (w ∷ ws) = omega arith in
-      one-other w (flatten (ws ++ rest)) blocks bad age (o .0) (l .0)
-      ∙ rw (ages kind r age held (omega arith), ← a, ← plus-assoc blocks (countRead (readOf w)) (countBlocks ws))
-      (other-blocks ws rest (plus blocks (countRead (readOf w))) (badRun bad (readOf w)) (age + 1) (o .1) (l .1) (omega arith))
+  -- ---- the run
 
-  -- and at age 120 it is gone
-  pub gone : (ws : List (List ℕ)) (blocks : Blocks) (bad age : ℕ) → Each Other ws → LockHolds bad ws → 0 < length ws → age + length ws ≡ 120
-      → runFrom (flatten ws) blocks 0 (holding bad kind r age) ≡ ended 0 (plus blocks (countBlocks ws)) 0 (nothingWaits (lockOf locked 0 (badRunAfter bad ws) noTime))
-  unfolding flatten runFrom
-  gone [] blocks bad age o l some h = absurd (omega arith)
-  gone (w ∷ []) blocks bad age o l some h =
-      one-other w [] blocks bad age (o .0) (l .0)
-      ∙ rw (goes kind r age held (omega arith))
-      (ap (λ (b : Blocks). ended 0 (plus blocks b) 0 (nothingWaits (lockOf locked 0 (badRun bad (readOf w)) noTime))) (sym (plus-none (countRead (readOf w)))))
-  gone (w ∷ v ∷ ws) blocks bad age o l some h =
-      one-other w (flatten (v ∷ ws)) blocks bad age (o .0) (l .0)
-      ∙ rw (ages kind r age held (omega arith))
-      (gone (v ∷ ws) (plus blocks (countRead (readOf w))) (badRun bad (readOf w)) (age + 1) (o .1) (l .1) (omega arith) (omega arith)
-      ∙ ap (λ (b : Blocks). ended 0 b 0 (nothingWaits (lockOf locked 0 (badRunAfter bad (w ∷ v ∷ ws)) noTime))) (plus-assoc blocks (countRead (readOf w)) (countBlocks (v ∷ ws))))
+  -- the first time block, fed to an idle receiver, is a candidate
+  pub first-block : (r : Record) (s : State) → Usable edition r → Idle edition s → runFrom edition (timeBlock r) noBlocks 0 s ≡ ended 0 (countRead (readOf (timeBlock r))) 0 (holding 0 candidate r 0)
+  unfolding runFrom
+  first-block r s u i =
+      ap (λ (l : List ℕ). runFrom edition l noBlocks 0 s) (sym (append-nil (timeBlock r)))
+      ∙ ap (λ (k : ℕ). runFrom edition (timeBlock r ++ []) noBlocks 0 (stateOf (lockIn s) k (s .bits))) (i .nothing-waits)
+      ∙ time-feeds r (s .bits) [] noBlocks (lockIn s) u (i .places) (i .is-locked)
+      ∙ rw (from-none (lockIn s .time) r (i .no-time)) (ap (λ (b : Blocks). ended 0 b 0 (holding 0 candidate r 0)) (none-plus (countRead (readOf (timeBlock r)))))
 
-  -- the block of as many minutes later as went by leaves its record confirmed
-  pub last-block : (minutes bad age : ℕ) (n : Record) (blocks : Blocks) → 1 ≤ minutes → minutes ≤ 4 → age + 1 ≡ 30 * minutes → Usable n → minutesLater minutes r ≡ Given n
-      → runFrom (flatten (timeBlock n ∷ [])) blocks 0 (holding bad kind r age) ≡ ended 0 (plus blocks (countRead (readOf (timeBlock n)))) 0 (holding 0 confirmed n 0)
-  unfolding flatten runFrom
-  last-block minutes bad age n blocks from to whole u e =
-      time-feeds n (zeros 50) [] blocks (lockOf locked 0 bad (timeOf kind r age)) u refl refl ∙ rw (later-confirms minutes kind age r n from to held whole e)
+  module _ (kind : ℕ) (held : candidate ≤ kind) (r : Record) where
+    -- one of the others ages the time
+    one-other : (w rest : List ℕ) (blocks : Blocks) (bad age : ℕ) → Other edition w → badRun bad (readOf w) < 4
+        → runFrom edition (w ++ rest) blocks 0 (holding bad kind r age)
+        ≡ runFrom edition rest (plus blocks (countRead (readOf w))) 0 (nothingWaits (lockOf locked 0 (badRun bad (readOf w)) (agedBy (timeOf kind r age))))
+    one-other w rest blocks bad age o l =
+        feeds edition w (zeros 50) rest blocks (lockOf locked 0 bad (timeOf kind r age)) (o .size) (o .bits) refl refl l
+        ∙ rw (unusable-ages (timeOf kind r age) (usableIn edition (readOf w)) (o .unusable))
+
+    -- after others the record has grown older by as many blocks
+    pub other-blocks : (ws rest : List (List ℕ)) (blocks : Blocks) (bad age : ℕ) → Each (Other edition) ws → LockHolds bad ws → age + length ws < 120
+        → runFrom edition (flatten (ws ++ rest)) blocks 0 (holding bad kind r age)
+        ≡ runFrom edition (flatten rest) (plus blocks (countBlocks ws)) 0 (holding (badRunAfter bad ws) kind r (age + length ws))
+    unfolding flatten
+    other-blocks [] rest blocks bad age o l h = rw (plus-none blocks, add-zero age)
+    other-blocks (w ∷ ws) rest blocks bad age o l h =
+        let a : age + 1 + length ws ≡ age + length (w ∷ ws) = omega arith in
+        one-other w (flatten (ws ++ rest)) blocks bad age (o .0) (l .0)
+        ∙ rw (ages kind r age held (omega arith), ← a, ← plus-assoc blocks (countRead (readOf w)) (countBlocks ws))
+        (other-blocks ws rest (plus blocks (countRead (readOf w))) (badRun bad (readOf w)) (age + 1) (o .1) (l .1) (omega arith))
+
+    -- and at age 120 it is gone
+    pub gone : (ws : List (List ℕ)) (blocks : Blocks) (bad age : ℕ) → Each (Other edition) ws → LockHolds bad ws → 0 < length ws → age + length ws ≡ 120
+        → runFrom edition (flatten ws) blocks 0 (holding bad kind r age) ≡ ended 0 (plus blocks (countBlocks ws)) 0 (nothingWaits (lockOf locked 0 (badRunAfter bad ws) noTime))
+    unfolding flatten runFrom
+    gone [] blocks bad age o l some h = absurd (omega arith)
+    gone (w ∷ []) blocks bad age o l some h =
+        one-other w [] blocks bad age (o .0) (l .0)
+        ∙ rw (goes kind r age held (omega arith))
+        (ap (λ (b : Blocks). ended 0 (plus blocks b) 0 (nothingWaits (lockOf locked 0 (badRun bad (readOf w)) noTime))) (sym (plus-none (countRead (readOf w)))))
+    gone (w ∷ v ∷ ws) blocks bad age o l some h =
+        one-other w (flatten (v ∷ ws)) blocks bad age (o .0) (l .0)
+        ∙ rw (ages kind r age held (omega arith))
+        (gone (v ∷ ws) (plus blocks (countRead (readOf w))) (badRun bad (readOf w)) (age + 1) (o .1) (l .1) (omega arith) (omega arith)
+        ∙ ap (λ (b : Blocks). ended 0 b 0 (nothingWaits (lockOf locked 0 (badRunAfter bad (w ∷ v ∷ ws)) noTime))) (plus-assoc blocks (countRead (readOf w)) (countBlocks (v ∷ ws))))
+
+    -- the block of as many minutes later as went by leaves its record confirmed
+    pub last-block : (minutes bad age : ℕ) (n : Record) (blocks : Blocks) → 1 ≤ minutes → minutes ≤ 4 → age + 1 ≡ 30 * minutes → Usable edition n → minutesLater edition minutes r ≡ Given n
+        → runFrom edition (flatten (timeBlock n ∷ [])) blocks 0 (holding bad kind r age) ≡ ended 0 (plus blocks (countRead (readOf (timeBlock n)))) 0 (holding 0 confirmed n 0)
+    unfolding flatten runFrom
+    last-block minutes bad age n blocks from to whole u e =
+        time-feeds n (zeros 50) [] blocks (lockOf locked 0 bad (timeOf kind r age)) u refl refl ∙ rw (later-confirms minutes kind age r n from to held whole e)

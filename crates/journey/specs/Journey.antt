@@ -1,7 +1,7 @@
--- One statement over the crates: a date is written as a record, the record as a word, the word as a block, and the block is fed
+-- One statement over the crates, for both editions: a date is written as a record, the record as a word, the word as a block, and the block is fed
 -- bit by bit to a locked receiver, which holds the record; one to four minutes later the block of that minute is confirmed,
 -- whatever was missed in between while lock held, and the date is that many minutes later (01, "The calendar" and "Hunting, trying,
--- locked"; 02, No. 2 and No. 5).
+-- locked"; 02, No. 2, No. 3 and No. 5).
 -- Assumes nothing.
 use Prim.Native.Nat.{ℕ, _+_, _*_, _≤_, _<_}
 use mathlib.Core.Path.{_≡_}
@@ -14,6 +14,7 @@ use Rattle.block.specs.Read.{readOf}
 use Rattle.block.specs.declared.Read.{Read}
 use Rattle.block.specs.declared.Read.the-variants.{Block, Refused}
 use Rattle.detection.specs.Damage.{Pattern, Damage}
+use Rattle.record.specs.declared.Edition.{Edition}
 use Rattle.record.specs.declared.Record.{Record}
 use Rattle.record.specs.declared.Recorded.the-variants as recorded
 use Rattle.record.specs.declared.Worded.the-variants as worded
@@ -40,10 +41,10 @@ abbrev pub timeBlock : Record → List ℕ
 timeBlock r = blockOf 0 (wordOf r)
 
 -- a block that is no usable time block, good or bad: no record is taken from it
-pub record Other (w : List ℕ) : Type 0 where
+pub record Other (edition : Edition) (w : List ℕ) : Type 0 where
   pub size : length w ≡ 50
   pub bits : Bits w
-  pub unusable : isGiven (usableIn (readOf w)) ≡ false
+  pub unusable : isGiven (usableIn edition (readOf w)) ≡ false
 
 -- what is asked holds of each of some blocks
 abbrev pub Each : (List ℕ → Type 0) → List (List ℕ) → Type 0
@@ -76,33 +77,33 @@ countBlocks (w ∷ ws) = plus (countRead (readOf w)) (countBlocks ws)
 -- ---- missed minutes
 
 -- the blocks of a minute before its time block: twenty-nine good ones, none of them a usable time block
-pub record Quiet (ws : List (List ℕ)) : Type 0 where
+pub record Quiet (edition : Edition) (ws : List (List ℕ)) : Type 0 where
   pub count : length ws ≡ 29
-  pub others : Each Other ws
+  pub others : Each (Other edition) ws
   pub good : Each (λ w. isGood (readOf w) ≡ true) ws
 
 -- a missed minute: in the place of its time block stands something that is none, good or bad
-pub record Missed : Type 0 where
+pub record Missed (edition : Edition) : Type 0 where
   pub before : List (List ℕ)
-  pub quiet : Quiet before
+  pub quiet : Quiet edition before
   pub block : List ℕ
-  pub other : Other block
+  pub other : Other edition block
 
 -- the blocks of missed minutes
-abbrev pub heard : List Missed → List (List ℕ)
+abbrev pub heard : {edition : Edition} → List (Missed edition) → List (List ℕ)
 heard [] = []
 heard (m ∷ ms) = m .before ++ (m .block ∷ heard ms)
 
--- a block with any of the damage that demand 3 speaks of is missed
+-- a block with any of the damage that demand 3 speaks of is missed under every edition, which demand 3 does not know of
 abbrev pub DamagedIsOther : Type 0
-DamagedIsOther = (s e : List ℕ) → Good s → Pattern e → Damage e → Other (xors s e)
+DamagedIsOther = (edition : Edition) (s e : List ℕ) → Good s → Pattern e → Damage e → Other edition (xors s e)
 
 -- ---- the receiver before and after
 
 -- a locked receiver with nothing waiting and no time; whatever run of 0 to 3 bad blocks it has
-pub record Idle (s : State) : Type 0 where
+pub record Idle (edition : Edition) (s : State) : Type 0 where
   pub places : length (s .bits) ≡ 50
-  pub proper : properOf s ≡ true
+  pub proper : properOf edition s ≡ true
   pub is-locked : s .mode ≡ locked
   pub nothing-waits : s .waiting ≡ 0
   pub no-time : s .time ≡ none
@@ -113,21 +114,21 @@ abbrev pub holding : ℕ → ℕ → Record → ℕ → State
 holding bad kind r age = nothingWaits (lockOf locked 0 bad (timeOf kind r age))
 
 -- some blocks are one run, which counts every one of them and leads to this state
-abbrev pub Leads : State → List (List ℕ) → State → Type 0
-Leads s blocks t = runOf s (flatten blocks) ≡ ended 0 (countBlocks blocks) 0 t
+abbrev pub Leads : Edition → State → List (List ℕ) → State → Type 0
+Leads edition s blocks t = runOf edition s (flatten blocks) ≡ ended 0 (countBlocks blocks) 0 t
 
 -- ---- the statement
 
 -- a date that can be written, with its record, and a first year whose 28 years hold its coded year
-pub record Writable (d : Date) (r : Record) (first : ℕ) : Type 0 where
-  pub is-recorded : recordOf d ≡ recorded.Given r
+pub record Writable (edition : Edition) (d : Date) (r : Record) (first : ℕ) : Type 0 where
+  pub is-recorded : recordOf edition d ≡ recorded.Given r
   pub from-first : firstYear ≤ first
   pub to-last : first ≤ lastFirstYear
   pub begun : first ≤ codedYear d
   pub within : codedYear d < first + span
 
 -- so many minutes after the record r of the date d, where n is the record then
-pub record MinutesOn (d : Date) (r : Record) (first minutes : ℕ) (n : Record) : Type 0 where
+pub record MinutesOn (edition : Edition) (d : Date) (r : Record) (first minutes : ℕ) (n : Record) : Type 0 where
   -- the record has a word
   pub has-word : writtenOf n ≡ worded.Given (wordOf n)
   -- its block, thirty blocks a minute after that of r, leaves n confirmed at age 0, whatever the others were while lock held, and
@@ -138,29 +139,29 @@ pub record MinutesOn (d : Date) (r : Record) (first minutes : ℕ) (n : Record) 
       kind ≤ confirmed →
       (others : List (List ℕ)) →
       length others + 1 ≡ 30 * minutes →
-      Each Other others →
+      Each (Other edition) others →
       LockHolds 0 others →
-      Leads (holding 0 kind r 0) (others ++ timeBlock n ∷ []) (holding 0 confirmed n 0)
+      Leads edition (holding 0 kind r 0) (others ++ timeBlock n ∷ []) (holding 0 confirmed n 0)
   -- so it does where all minutes before it were missed: they do not end the lock
   pub outlasts :
       (kind : ℕ) →
       candidate ≤ kind →
       kind ≤ confirmed →
-      (missed : List Missed) →
+      (missed : List (Missed edition)) →
       length missed + 1 ≡ minutes →
       (before : List (List ℕ)) →
-      Quiet before →
-      Leads (holding 0 kind r 0) ((heard missed ++ before) ++ timeBlock n ∷ []) (holding 0 confirmed n 0)
+      Quiet edition before →
+      Leads edition (holding 0 kind r 0) ((heard missed ++ before) ++ timeBlock n ∷ []) (holding 0 confirmed n 0)
   -- the held record's date is as many minutes later, where the year coded then is still in the 28, which end with 2099 at the latest
-  pub dates-on : codedYear (minutesLaterOfDate minutes d) < first + span → dateOf n first ≡ dated.Given (minutesLaterOfDate minutes d)
+  pub dates-on : codedYear (minutesLaterOfDate minutes d) < first + span → dateOf edition n first ≡ dated.Given (minutesLaterOfDate minutes d)
 
-pub record Journey (s : State) (d : Date) (r : Record) (first : ℕ) : Type 0 where
+pub record Journey (edition : Edition) (s : State) (d : Date) (r : Record) (first : ℕ) : Type 0 where
   -- the record has a word
   pub has-word : writtenOf r ≡ worded.Given (wordOf r)
   -- the fifty bits of its block count one good block and leave the record as a candidate at age 0
-  pub arrives : runOf s (timeBlock r) ≡ ended 0 (blocksOf 1 0 0) 0 (holding 0 candidate r 0)
+  pub arrives : runOf edition s (timeBlock r) ≡ ended 0 (blocksOf 1 0 0) 0 (holding 0 candidate r 0)
   -- the held record dates back to the date
-  pub dates-back : dateOf r first ≡ dated.Given d
+  pub dates-back : dateOf edition r first ≡ dated.Given d
   -- as a candidate or confirmed it is held over up to 119 others, while lock holds
   pub lasts :
       (kind : ℕ) →
@@ -168,9 +169,9 @@ pub record Journey (s : State) (d : Date) (r : Record) (first : ℕ) : Type 0 wh
       kind ≤ confirmed →
       (others : List (List ℕ)) →
       length others < 120 →
-      Each Other others →
+      Each (Other edition) others →
       LockHolds 0 others →
-      Leads (holding 0 kind r 0) others (holding (badRunAfter 0 others) kind r (length others))
+      Leads edition (holding 0 kind r 0) others (holding (badRunAfter 0 others) kind r (length others))
   -- with the 120th it is gone
   pub ends :
       (kind : ℕ) →
@@ -178,12 +179,12 @@ pub record Journey (s : State) (d : Date) (r : Record) (first : ℕ) : Type 0 wh
       kind ≤ confirmed →
       (others : List (List ℕ)) →
       length others ≡ 120 →
-      Each Other others →
+      Each (Other edition) others →
       LockHolds 0 others →
-      Leads (holding 0 kind r 0) others (nothingWaits (lockOf locked 0 (badRunAfter 0 others) noTime))
+      Leads edition (holding 0 kind r 0) others (nothingWaits (lockOf locked 0 (badRunAfter 0 others) noTime))
   -- and it goes on for one to four minutes: there is a record then
-  pub goes-on : (minutes : ℕ) → 1 ≤ minutes → minutes ≤ 4 → (n : Record) × (minutesLater minutes r ≡ recorded.Given n) × MinutesOn d r first minutes n
+  pub goes-on : (minutes : ℕ) → 1 ≤ minutes → minutes ≤ 4 → (n : Record) × (minutesLater edition minutes r ≡ recorded.Given n) × MinutesOn edition d r first minutes n
 
--- for every date that can be written, every first year that holds it, and every receiver that is locked and idle
+-- for either edition, every date that can be written, every first year that holds it, and every receiver that is locked and idle
 abbrev pub EveryJourney : Type 0
-EveryJourney = (s : State) (d : Date) (r : Record) (first : ℕ) → Idle s → Writable d r first → Journey s d r first
+EveryJourney = (edition : Edition) (s : State) (d : Date) (r : Record) (first : ℕ) → Idle edition s → Writable edition d r first → Journey edition s d r first

@@ -79,13 +79,16 @@ layouts =
       write = writes;
       writes-not = writes-not;
       choose = λ s t n m e d. ap₂ between (reads s n e) (reads t m d);
-      there = λ s l e. (states.packed-proper s (record { places = l; proper = e }), states.there-and-back s (states.proper-fifty s (record { places = l; proper = e })));
+      there = λ edition s l e. (
+        states.packed-proper edition s (record { places = l; proper = e }),
+        states.there-and-back s (states.proper-fifty edition s (record { places = l; proper = e })),
+      );
       back = states.back-and-there;
       proper = states.same-test;
       above = states.proper-small;
       fresh = states.fresh-packed;
-      fed = λ p b h. states.fed-unpacked p h b;
-      ran = λ p bs h. states.run-unpacked p h bs;
-      fed-there = λ s b l e. states.fed-packed s b (states.proper-fifty s (record { places = l; proper = e }));
-      ran-there = λ s bs l e. states.run-packed s bs (states.proper-fifty s (record { places = l; proper = e }));
+      fed = λ edition p b h. states.fed-unpacked edition p h b;
+      ran = λ edition p bs h. states.run-unpacked edition p h bs;
+      fed-there = λ edition s b l e. states.fed-packed edition s b (states.proper-fifty edition s (record { places = l; proper = e }));
+      ran-there = λ edition s bs l e. states.run-packed edition s bs (states.proper-fifty edition s (record { places = l; proper = e }));
     }

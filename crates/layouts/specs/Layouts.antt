@@ -14,6 +14,7 @@ use Rattle.block.specs.Packed.{readPacked, writePacked, choosePacked, packOf, u
 use Rattle.block.specs.declared.Packed.the-variants as packing
 use Rattle.block.specs.declared.Read.the-variants as reading
 use Rattle.block.specs.declared.Written.the-variants as writing
+use Rattle.record.specs.declared.Edition.{Edition}
 use Rattle.receiver.specs.declared.PackedState.{PackedState}
 use Rattle.receiver.specs.declared.State.{State}
 use Rattle.receiver.specs.States.{freshOf, properOf}
@@ -34,15 +35,15 @@ pub record Layouts : Type 0 where
   -- choosing between the numbers of two slices is choosing between the slices
   pub choose : (s t : List ℕ) (n m : ℕ) → packOf s ≡ packing.Number n → packOf t ≡ packing.Number m → choosePacked n m ≡ choiceOf s t
   -- ---- the state. Packing a proper state loses nothing, nor does unpacking one without a bit above place 49
-  pub there : (s : State) → length (s .bits) ≡ 50 → properOf s ≡ true → (packedProper (packed s) ≡ true) × (unpacked (packed s) ≡ s)
+  pub there : (edition : Edition) (s : State) → length (s .bits) ≡ 50 → properOf edition s ≡ true → (packedProper edition (packed s) ≡ true) × (unpacked (packed s) ≡ s)
   pub back : (p : PackedState) → p .bits < 2 ^ 50 → packed (unpacked p) ≡ p
   -- proper is the same test; a bit above place 49 is improper
-  pub proper : (p : PackedState) → p .bits < 2 ^ 50 → packedProper p ≡ properOf (unpacked p)
-  pub above : (p : PackedState) → packedProper p ≡ true → p .bits < 2 ^ 50
+  pub proper : (edition : Edition) (p : PackedState) → p .bits < 2 ^ 50 → packedProper edition p ≡ properOf edition (unpacked p)
+  pub above : (edition : Edition) (p : PackedState) → packedProper edition p ≡ true → p .bits < 2 ^ 50
   -- the fresh state, one bit and a run, refused or not
   pub fresh : freshPacked ≡ packed freshOf
-  pub fed : (p : PackedState) (b : ℕ) → p .bits < 2 ^ 50 → fedPacked p b ≡ packedRan (fedOf (unpacked p) b)
-  pub ran : (p : PackedState) (bs : List ℕ) → p .bits < 2 ^ 50 → runPacked p bs ≡ packedRan (runOf (unpacked p) bs)
+  pub fed : (edition : Edition) (p : PackedState) (b : ℕ) → p .bits < 2 ^ 50 → fedPacked edition p b ≡ packedRan (fedOf edition (unpacked p) b)
+  pub ran : (edition : Edition) (p : PackedState) (bs : List ℕ) → p .bits < 2 ^ 50 → runPacked edition p bs ≡ packedRan (runOf edition (unpacked p) bs)
   -- so those of a proper state, packed, are its own, packed
-  pub fed-there : (s : State) (b : ℕ) → length (s .bits) ≡ 50 → properOf s ≡ true → fedPacked (packed s) b ≡ packedRan (fedOf s b)
-  pub ran-there : (s : State) (bs : List ℕ) → length (s .bits) ≡ 50 → properOf s ≡ true → runPacked (packed s) bs ≡ packedRan (runOf s bs)
+  pub fed-there : (edition : Edition) (s : State) (b : ℕ) → length (s .bits) ≡ 50 → properOf edition s ≡ true → fedPacked edition (packed s) b ≡ packedRan (fedOf edition s b)
+  pub ran-there : (edition : Edition) (s : State) (bs : List ℕ) → length (s .bits) ≡ 50 → properOf edition s ≡ true → runPacked edition (packed s) bs ≡ packedRan (runOf edition s bs)

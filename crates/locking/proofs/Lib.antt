@@ -1,4 +1,5 @@
 pub mod Choices
 pub mod StaysProper
 pub mod NoTime
+pub mod Editions
 pub mod Determined

@@ -7,6 +7,7 @@ use mathlib.Core.Bool.{true, and-eq-true-iff}
 use borrow.Author.Tests.{leb-true, le-leb, leb-false}
 use lib.Dec.{eqb, leb}
 use Rattle.block.specs.declared.Read.{Read}
+use Rattle.record.specs.declared.Edition.{Edition}
 use Rattle.timekeeping.specs.declared.Time.{Time}
 use Rattle.timekeeping.specs.Times.{usableIn, offeredTo}
 use Rattle.timekeeping.specs.Proper.{isNoTime, isZeroRecord, timeProper}
@@ -18,36 +19,37 @@ use Rattle.locking.specs.Locks.{hunting, trying, locked, lockProper}
 use Rattle.locking.specs.Modes.{isGood, hunted, tried, heldOn, judgedBy}
 use Rattle.locking.proofs.Choices.{held-elim}
 
-abbrev pub Kept : Judged → Type 0
-Kept j = lockProper (j .lock) ≡ true
+module _ (edition : Edition) where
+  abbrev pub Kept : Judged → Type 0
+  Kept j = lockProper edition (j .lock) ≡ true
 
-tried-proper : (good : ℕ) (w : Read) → good ≤ 2 → Kept (tried good w)
-unfolding tried lockProper timeProper isNoTime isZeroRecord
-tried-proper good w h =
-    cond-elim Kept (isGood w)
-    (λ _.
-    cond-elim (λ (l : Lock). lockProper l ≡ true) (leb 3 (good + 1)) (λ _. refl)
-    (λ e. and-eq-true-iff _ _ .1 (le-leb 1 (good + 1) (omega arith), and-eq-true-iff _ _ .1 (le-leb (good + 1) 2 (omega (arith, leb-false 3 (good + 1) e)), refl))))
-    (λ _. refl)
+  tried-proper : (good : ℕ) (w : Read) → good ≤ 2 → Kept (tried good w)
+  unfolding tried lockProper timeProper isNoTime isZeroRecord
+  tried-proper good w h =
+      cond-elim Kept (isGood w)
+      (λ _.
+      cond-elim (λ (l : Lock). lockProper edition l ≡ true) (leb 3 (good + 1)) (λ _. refl)
+      (λ e. and-eq-true-iff _ _ .1 (le-leb 1 (good + 1) (omega arith), and-eq-true-iff _ _ .1 (le-leb (good + 1) 2 (omega (arith, leb-false 3 (good + 1) e)), refl))))
+      (λ _. refl)
 
-held-proper : (bad : ℕ) (t : Time) (w : Read) → bad ≤ 3 → timeProper t ≡ true → Kept (heldOn bad t w)
-unfolding lockProper isNoTime isZeroRecord
-held-proper bad t w h e =
-    let o : timeProper (offeredTo t (usableIn w)) ≡ true = time-offered t (usableIn w) (usable-in w) e in
-    held-elim Kept bad t w o refl (λ f. and-eq-true-iff _ _ .1 (le-leb (bad + 1) 3 (omega arith), o))
+  held-proper : (bad : ℕ) (t : Time) (w : Read) → bad ≤ 3 → timeProper edition t ≡ true → Kept (heldOn edition bad t w)
+  unfolding lockProper isNoTime isZeroRecord
+  held-proper bad t w h e =
+      let o : timeProper edition (offeredTo edition t (usableIn edition w)) ≡ true = time-offered edition t (usableIn edition w) (usable-in edition w) e in
+      held-elim edition Kept bad t w o refl (λ f. and-eq-true-iff _ _ .1 (le-leb (bad + 1) 3 (omega arith), o))
 
-hunted-proper : (w : Read) → Kept (hunted w)
-unfolding hunted lockProper isNoTime isZeroRecord
-hunted-proper w = cond-elim Kept (isGood w) (λ _. refl) (λ _. refl)
+  hunted-proper : (w : Read) → Kept (hunted w)
+  unfolding hunted lockProper isNoTime isZeroRecord
+  hunted-proper w = cond-elim Kept (isGood w) (λ _. refl) (λ _. refl)
 
--- the lock after a window is proper where the lock before it was
-pub judged-proper : (l : Lock) (w : Read) → lockProper l ≡ true → Kept (judgedBy l w)
-unfolding judgedBy lockProper
-judged-proper l w e =
-    cond-elim Kept (eqb (l .mode) hunting) (λ _. hunted-proper w)
-    (λ a.
-    cond-elim Kept (eqb (l .mode) trying)
-    (λ b. let p = and-eq-true-iff (leb (l .good) 2) _ .0 (and-eq-true-iff (leb 1 (l .good)) _ .0 (rw (a, b) at e) .1) in tried-proper (l .good) w (leb-true (l .good) 2 (p .0)))
-    (λ b.
-    let p = and-eq-true-iff (leb (l .bad) 3) _ .0 (and-eq-true-iff (eqb (l .good) 0) _ .0 (and-eq-true-iff (eqb (l .mode) locked) _ .0 (rw (a, b) at e) .1) .1) in
-    held-proper (l .bad) (l .time) w (leb-true (l .bad) 3 (p .0)) (p .1)))
+  -- the lock after a window is proper where the lock before it was
+  pub judged-proper : (l : Lock) (w : Read) → lockProper edition l ≡ true → Kept (judgedBy edition l w)
+  unfolding judgedBy lockProper
+  judged-proper l w e =
+      cond-elim Kept (eqb (l .mode) hunting) (λ _. hunted-proper w)
+      (λ a.
+      cond-elim Kept (eqb (l .mode) trying)
+      (λ b. let p = and-eq-true-iff (leb (l .good) 2) _ .0 (and-eq-true-iff (leb 1 (l .good)) _ .0 (rw (a, b) at e) .1) in tried-proper (l .good) w (leb-true (l .good) 2 (p .0)))
+      (λ b.
+      let p = and-eq-true-iff (leb (l .bad) 3) _ .0 (and-eq-true-iff (eqb (l .good) 0) _ .0 (and-eq-true-iff (eqb (l .mode) locked) _ .0 (rw (a, b) at e) .1) .1) in
+      held-proper (l .bad) (l .time) w (leb-true (l .bad) 3 (p .0)) (p .1)))

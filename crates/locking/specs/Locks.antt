@@ -3,6 +3,7 @@
 use Prim.Native.Nat.{ℕ}
 use mathlib.Core.Bool.{Bool, cond, _&&_}
 use lib.Dec.{eqb, leb}
+use Rattle.record.specs.declared.Edition.{Edition}
 use Rattle.timekeeping.specs.declared.Time.{Time}
 use Rattle.timekeeping.specs.Times.{noTime}
 use Rattle.timekeeping.specs.Proper.{isNoTime, timeProper}
@@ -35,10 +36,10 @@ huntingProper good bad t = eqb good 0 && (eqb bad 0 && isNoTime t)
 abbrev pub tryingProper : ℕ → ℕ → Time → Bool
 tryingProper good bad t = leb 1 good && (leb good 2 && (eqb bad 0 && isNoTime t))
 
-abbrev pub lockedProper : ℕ → ℕ → Time → Bool
-lockedProper good bad t = eqb good 0 && (leb bad 3 && timeProper t)
+abbrev pub lockedProper : Edition → ℕ → ℕ → Time → Bool
+lockedProper edition good bad t = eqb good 0 && (leb bad 3 && timeProper edition t)
 
-unfoldable pub lockProper : Lock → Bool
-lockProper l =
+unfoldable pub lockProper : Edition → Lock → Bool
+lockProper edition l =
     cond (eqb (l .mode) hunting) (huntingProper (l .good) (l .bad) (l .time))
-    (cond (eqb (l .mode) trying) (tryingProper (l .good) (l .bad) (l .time)) (eqb (l .mode) locked && lockedProper (l .good) (l .bad) (l .time)))
+    (cond (eqb (l .mode) trying) (tryingProper (l .good) (l .bad) (l .time)) (eqb (l .mode) locked && lockedProper edition (l .good) (l .bad) (l .time)))

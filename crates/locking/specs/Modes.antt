@@ -6,6 +6,7 @@ use lib.Dec.{eqb, leb}
 use Rattle.block.specs.Read.{remainderRead}
 use Rattle.block.specs.declared.Read.{Read}
 use Rattle.block.specs.declared.Read.the-variants.{Block, Refused}
+use Rattle.record.specs.declared.Edition.{Edition}
 use Rattle.timekeeping.specs.declared.Time.{Time}
 use Rattle.timekeeping.specs.Times.{noTime, usableIn, offeredTo}
 use Rattle.locking.specs.declared.Blocks.{Blocks}
@@ -45,10 +46,10 @@ tried good w =
     cond (isGood w) (goodBlock (cond (leb 3 (good + 1)) (lockOf locked 0 0 noTime) (lockOf trying (good + 1) 0 noTime))) (badBlock (remainderRead w) freshLock)
 
 -- locked: the block is offered to the time, then a good one ends the run of bad ones, and a fourth bad one ends the lock
-unfoldable pub heldOn : ℕ → Time → Read → Judged
-heldOn bad t w =
-    cond (isGood w) (goodBlock (lockOf locked 0 0 (offeredTo t (usableIn w))))
-    (badBlock (remainderRead w) (cond (leb 4 (bad + 1)) freshLock (lockOf locked 0 (bad + 1) (offeredTo t (usableIn w)))))
+unfoldable pub heldOn : Edition → ℕ → Time → Read → Judged
+heldOn edition bad t w =
+    cond (isGood w) (goodBlock (lockOf locked 0 0 (offeredTo edition t (usableIn edition w))))
+    (badBlock (remainderRead w) (cond (leb 4 (bad + 1)) freshLock (lockOf locked 0 (bad + 1) (offeredTo edition t (usableIn edition w)))))
 
-unfoldable pub judgedBy : Lock → Read → Judged
-judgedBy l w = cond (eqb (l .mode) hunting) (hunted w) (cond (eqb (l .mode) trying) (tried (l .good) w) (heldOn (l .bad) (l .time) w))
+unfoldable pub judgedBy : Edition → Lock → Read → Judged
+judgedBy edition l w = cond (eqb (l .mode) hunting) (hunted w) (cond (eqb (l .mode) trying) (tried (l .good) w) (heldOn edition (l .bad) (l .time) w))

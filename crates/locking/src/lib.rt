@@ -3,6 +3,7 @@ ghost use mathlib.Core.Path.{_≡_};
 ghost use Rattle.locking.specs.Locks.{lockOf, freshLock, huntingProper, tryingProper, lockedProper, lockProper};
 ghost use Rattle.locking.specs.Modes.{goodBlock, badBlock, passedOver, hunted, tried, heldOn, judgedBy};
 use block::Read;
+use record::Edition;
 use timekeeping::Time;
 use timekeeping::is_no_time;
 use timekeeping::no_time;
@@ -122,10 +123,10 @@ fn try_on(good: u8, read: Read) -> Judged
     }
 }
 
-fn hold_on(bad: u8, time: Time, read: Read) -> Judged
-    ensures { λ j. ⌜ j ≡ heldOn bad time read ⌝ }
+fn hold_on(edition: Edition, bad: u8, time: Time, read: Read) -> Judged
+    ensures { λ j. ⌜ j ≡ heldOn edition bad time read ⌝ }
 {
-    let next = timekeeping::offered_to(time, read);
+    let next = timekeeping::offered_to(edition, time, read);
     let none = no_time();
     match read {
         Read::Block { code: _, word: _ } => good_block(lock_of(2, 0, 0, next)),
@@ -143,8 +144,8 @@ fn hold_on(bad: u8, time: Time, read: Read) -> Judged
 }
 
 // A judged window, by the mode.
-pub fn judge(lock: Lock, read: Read) -> Judged
-    ensures { λ j. ⌜ j ≡ judgedBy lock read ⌝ }
+pub fn judge(edition: Edition, lock: Lock, read: Read) -> Judged
+    ensures { λ j. ⌜ j ≡ judgedBy edition lock read ⌝ }
 {
     let mode = lock.mode;
     let good = lock.good;
@@ -155,7 +156,7 @@ pub fn judge(lock: Lock, read: Read) -> Judged
         return try_on(good, read);
     }
     let time = lock.time;
-    hold_on(lock.bad, time, read)
+    hold_on(edition, lock.bad, time, read)
 }
 
 // ---- proper
@@ -187,8 +188,8 @@ fn trying_is_proper(good: u8, bad: u8, time: Time) -> bool
     is_no_time(time)
 }
 
-fn locked_is_proper(good: u8, bad: u8, time: Time) -> bool
-    ensures { λ t. ⌜ t ≡ lockedProper good bad time ⌝ }
+fn locked_is_proper(edition: Edition, good: u8, bad: u8, time: Time) -> bool
+    ensures { λ t. ⌜ t ≡ lockedProper edition good bad time ⌝ }
 {
     if good != 0 {
         return false;
@@ -196,11 +197,11 @@ fn locked_is_proper(good: u8, bad: u8, time: Time) -> bool
     if 3 < bad {
         return false;
     }
-    timekeeping::is_proper(time)
+    timekeeping::is_proper(edition, time)
 }
 
-pub fn is_proper(lock: Lock) -> bool
-    ensures { λ t. ⌜ t ≡ lockProper lock ⌝ }
+pub fn is_proper(edition: Edition, lock: Lock) -> bool
+    ensures { λ t. ⌜ t ≡ lockProper edition lock ⌝ }
 {
     let time = lock.time;
     if lock.mode == 0 {
@@ -210,7 +211,7 @@ pub fn is_proper(lock: Lock) -> bool
         return trying_is_proper(lock.good, lock.bad, time);
     }
     if lock.mode == 2 {
-        locked_is_proper(lock.good, lock.bad, time)
+        locked_is_proper(edition, lock.good, lock.bad, time)
     } else {
         false
     }

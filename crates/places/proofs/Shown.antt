@@ -6,9 +6,11 @@ use Rattle.block.specs.Block.{blockOf, bodyOf}
 use Rattle.block.specs.Division.{remainderFrom}
 use Rattle.block.specs.Read as block
 use Rattle.block.proofs.RoundTrip.{written-good}
+use Rattle.record.specs.Editions.{isFiller}
 use Rattle.record.specs.Fields.{offsetOf, fieldsOf}
 use Rattle.record.specs.Ranges.{inRange, kindInRange, dayInRange, timeInRange, offsetInRange}
 use Rattle.record.specs.Words as words
+use Rattle.calendar.specs.LeapCodes.{leapCode, saysLeap}
 use Rattle.calendar.specs.Years.{leapYear, daysOfYears, startDay, yearFrom}
 use Rattle.calendar.specs.Days.{sumOf, monthFrom}
 use Rattle.calendar.specs.Weeks.{weeksOf, yearAround}
@@ -18,8 +20,8 @@ use Rattle.places.specs.Places.{Places}
 
 pub places : Places
 unfolding bitsOf valueFrom remainderFrom blockOf bodyOf block.readOf
-    words.readOf fieldsOf offsetOf inRange kindInRange dayInRange timeInRange offsetInRange
-    leapYear daysOfYears startDay yearFrom sumOf monthFrom weeksOf yearAround
+    words.readOf isFiller fieldsOf offsetOf inRange kindInRange dayInRange timeInRange offsetInRange
+    leapCode saysLeap leapYear daysOfYears startDay yearFrom sumOf monthFrom weeksOf yearAround
     usableOf dateIn dateAfter dateOf dateInRange codedYear recordAt recordOf
     nextAfter nextMinuteOf
 places =
@@ -39,4 +41,7 @@ places =
       first-monday = refl;
       no-week-53 = refl;
       week-53 = refl;
+      other-year = refl;
+      six-zeros = refl;
+      first-bit = refl;
     }

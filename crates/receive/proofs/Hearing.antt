@@ -26,7 +26,7 @@ use Rattle.receiver.proofs.Changes.{change-length, change-first, change-bits, s
 use Rattle.receive.specs.declared.totals.Heard.{Heard}
 use Rattle.receive.specs.declared.totals.Kept.{Kept}
 use Rattle.receive.specs.declared.totals.Said.the-variants.{Nothing}
-use Rattle.receive.specs.Totals.{total, keptNext, keptAfter, saidAt, saidOf, heardOf, FedOn}
+use Rattle.receive.specs.Totals.{edition, total, keptNext, keptAfter, saidAt, saidOf, heardOf, FedOn}
 
 -- ---- parts
 
@@ -37,39 +37,39 @@ after-append k (x ∷ xs) ys = after-append (keptNext k x) xs ys
 
 -- after the bits up to the change, those behind them
 pub after-change : (k : Kept) (s : State) (bits : List ℕ)
-    → keptAfter (keptAfter k (toChange s bits)) (drop (length (toChange s bits)) bits) ≡ keptAfter k bits
+    → keptAfter (keptAfter k (toChange edition s bits)) (drop (length (toChange edition s bits)) bits) ≡ keptAfter k bits
 after-change k s bits =
-    let part : List ℕ = toChange s bits in
+    let part : List ℕ = toChange edition s bits in
     let rest : List ℕ = drop (length part) bits in
-    let whole : part ++ rest ≡ bits = ap (λ (l : List ℕ). l ++ rest) (sym (change-first s bits)) ∙ take-append-drop (length part) bits in
+    let whole : part ++ rest ≡ bits = ap (λ (l : List ℕ). l ++ rest) (sym (change-first edition s bits)) ∙ take-append-drop (length part) bits in
     sym (after-append k part rest) ∙ ap (keptAfter k) whole
 
 -- where there is a bit, one is up to the change
-pub change-some : (s : State) (bits : List ℕ) → 0 < length bits → 0 < length (toChange s bits)
+pub change-some : (s : State) (bits : List ℕ) → 0 < length bits → 0 < length (toChange edition s bits)
 unfolding toChange
 change-some s [] h = absurd (omega arith)
 change-some s (b ∷ bits) h = omega arith
 
 -- ---- one bit more, in fifty places and packed
 
-module _ (k : Kept) (b : ℕ) (bit : b < 2) (p : packedProper (k .state) ≡ true) where
-  stepped : Proper (stepOf (unpacked (k .state)) b .next)
-  stepped = step-proper (unpacked (k .state)) b bit (proper-unpacked (k .state) p)
+module _ (k : Kept) (b : ℕ) (bit : b < 2) (p : packedProper edition (k .state) ≡ true) where
+  stepped : Proper edition (stepOf edition (unpacked (k .state)) b .next)
+  stepped = step-proper edition (unpacked (k .state)) b bit (proper-unpacked edition (k .state) p)
 
-  next-proper : packedProper (keptNext k b .state) ≡ true
+  next-proper : packedProper edition (keptNext k b .state) ≡ true
   unfolding keptNext
-  next-proper = packed-proper _ stepped
+  next-proper = packed-proper edition _ stepped
 
-  next-unpacked : unpacked (keptNext k b .state) ≡ stepOf (unpacked (k .state)) b .next
+  next-unpacked : unpacked (keptNext k b .state) ≡ stepOf edition (unpacked (k .state)) b .next
   unfolding keptNext
-  next-unpacked = there-and-back _ (proper-fifty _ stepped)
+  next-unpacked = there-and-back _ (proper-fifty edition _ stepped)
 
-pub after-proper : (k : Kept) (bits : List ℕ) → Bits bits → packedProper (k .state) ≡ true → packedProper (keptAfter k bits .state) ≡ true
+pub after-proper : (k : Kept) (bits : List ℕ) → Bits bits → packedProper edition (k .state) ≡ true → packedProper edition (keptAfter k bits .state) ≡ true
 unfolding keptAfter
 after-proper k [] h p = p
 after-proper k (b ∷ bits) h p = after-proper (keptNext k b) bits (h .1) (next-proper k b (h .0) p)
 
-pub fed-proper : {start after : Kept} → FedOn start after → packedProper (start .state) ≡ true → packedProper (after .state) ≡ true
+pub fed-proper : {start after : Kept} → FedOn start after → packedProper edition (start .state) ≡ true → packedProper edition (after .state) ≡ true
 fed-proper {start} f p = rw (f .fed) (after-proper start (f .history) (f .bits) p)
 
 -- ---- what is said
@@ -85,10 +85,10 @@ said-none m n = rw (same-lock m)
 -- what is said of these bits is said of the last up to the change, by the modes before them and after it
 abbrev Last : Kept → List ℕ → Type 0
 Last k bits =
-    let r : Kept = keptAfter k (toChange (unpacked (k .state)) bits) in
+    let r : Kept = keptAfter k (toChange edition (unpacked (k .state)) bits) in
     saidOf k bits ≡ saidAt (k .state .mode) (r .state .mode) (r .fed)
 
-pub said-last : (k : Kept) (bits : List ℕ) → Bits bits → packedProper (k .state) ≡ true → Last k bits
+pub said-last : (k : Kept) (bits : List ℕ) → Bits bits → packedProper edition (k .state) ≡ true → Last k bits
 unfolding saidOf keptAfter keptNext toChange
 said-last k [] h p = sym (said-none (k .state .mode) (k .fed))
 said-last k (b ∷ bits) h p =
@@ -134,7 +134,7 @@ next-fits k b =
       passed = mod-lt _ (omega arith);
     }
 
-total-nothing : (k : Kept) → Fitting k → packedProper (k .state) ≡ true → totalled k (runFrom [] noBlocks 0 (unpacked (k .state))) 0 ≡ k
+total-nothing : (k : Kept) → Fitting k → packedProper edition (k .state) ≡ true → totalled k (runFrom edition [] noBlocks 0 (unpacked (k .state))) 0 ≡ k
 unfolding runFrom
 total-nothing k f p =
     rw (
@@ -142,21 +142,21 @@ total-nothing k f p =
       total-none (k .good) (f .good),
       total-none (k .bad) (f .bad),
       total-none (k .passed) (f .passed),
-      back-and-there (k .state) (proper-small (k .state) p),
+      back-and-there (k .state) (proper-small edition (k .state) p),
     )
 
-pub after-run : (k : Kept) (bits : List ℕ) → (bits ≡ [] → Fitting k) → Bits bits → packedProper (k .state) ≡ true
-    → keptAfter k bits ≡ totalled k (runFrom bits noBlocks 0 (unpacked (k .state))) (length bits)
+pub after-run : (k : Kept) (bits : List ℕ) → (bits ≡ [] → Fitting k) → Bits bits → packedProper edition (k .state) ≡ true
+    → keptAfter k bits ≡ totalled k (runFrom edition bits noBlocks 0 (unpacked (k .state))) (length bits)
 unfolding keptAfter keptNext
 after-run k [] f h p = sym (total-nothing k (f refl) p)
 after-run k (b ∷ bits) f h p =
-    let t : Step = stepOf (unpacked (k .state)) b in
-    let r : Ran = runFrom bits noBlocks 0 (t .next) in
+    let t : Step = stepOf edition (unpacked (k .state)) b in
+    let r : Ran = runFrom edition bits noBlocks 0 (t .next) in
     let n : 1 + length bits ≡ length (b ∷ bits) = omega arith in
     after-run (keptNext k b) bits (λ _. next-fits k b) (h .1) (next-proper k b (h .0) p)
     ∙ rw (
       next-unpacked k b (h .0) p,
-      from-next b bits (unpacked (k .state)) (h .0),
+      from-next edition b bits (unpacked (k .state)) (h .0),
       total-more (k .fed) 1 (length bits),
       n,
       total-more (k .good) (t .blocks .good) (r .counts .good),
@@ -174,14 +174,14 @@ module _ (k : Kept) (bits : List ℕ) (i : ℕ) (h : Heard) (e : h ≡ heardOf k
   unfolding heardOf
   turn-fed =
       let n : length (drop i bits) ≡ length bits - i = length-drop i bits in
-      rw turn (change-some (unpacked (k .state)) (drop i bits) (omega arith), omega (arith, change-length (unpacked (k .state)) (drop i bits)))
+      rw turn (change-some (unpacked (k .state)) (drop i bits) (omega arith), omega (arith, change-length edition (unpacked (k .state)) (drop i bits)))
 
-  pub turn-proper : Bits bits → packedProper (k .state) ≡ true → packedProper (h .kept .state) ≡ true
+  pub turn-proper : Bits bits → packedProper edition (k .state) ≡ true → packedProper edition (h .kept .state) ≡ true
   unfolding heardOf
-  turn-proper b p = rw turn (after-proper k _ (change-bits (unpacked (k .state)) (drop i bits) (bits-drop i bits b)) p)
+  turn-proper b p = rw turn (after-proper k _ (change-bits edition (unpacked (k .state)) (drop i bits) (bits-drop i bits b)) p)
 
   pub turn-kept : keptAfter (h .kept) (drop (i + h .fed) bits) ≡ keptAfter k (drop i bits)
   unfolding heardOf
   turn-kept =
       let s : State = unpacked (k .state) in
-      rw turn (rw (← drop-drop (length (toChange s (drop i bits))) i bits) (after-change k s (drop i bits)))
+      rw turn (rw (← drop-drop (length (toChange edition s (drop i bits))) i bits) (after-change k s (drop i bits)))

@@ -7,6 +7,8 @@ use mathlib.Core.Path.{_≡_}
 use lib.Dec.{eqb}
 use lib.ListN.{length}
 use Rattle.block.specs.Bits.{Bits}
+use Rattle.record.specs.declared.Edition.{Edition}
+use Rattle.record.specs.declared.Edition.the-variants.{Of1984}
 use Rattle.locking.specs.Locks.{locked}
 use Rattle.receiver.specs.Steps.{Step, stepOf}
 use Rattle.receiver.specs.Packed.{packed, unpacked, freshPacked}
@@ -15,6 +17,10 @@ use Rattle.receive.specs.declared.totals.Heard.{Heard}
 use Rattle.receive.specs.declared.totals.Kept.{Kept}
 use Rattle.receive.specs.declared.totals.Said.{Said}
 use Rattle.receive.specs.declared.totals.Said.the-variants.{Nothing, Came, Went}
+
+-- the edition that records are read by; nothing that is told depends on a record, so either would do (02, No. 3)
+abbrev pub edition : Edition
+edition = Of1984
 
 -- the totals start anew at 2^64
 abbrev pub total : ℕ → ℕ → ℕ
@@ -27,7 +33,7 @@ freshKept = record { fed = 0; good = 0; bad = 0; passed = 0; state = freshPacked
 -- after one bit more: it is a step of the fifty places, and what it counts comes to the totals
 unfoldable pub keptNext : Kept → ℕ → Kept
 keptNext k b =
-    let t : Step = stepOf (unpacked (k .state)) b in
+    let t : Step = stepOf edition (unpacked (k .state)) b in
     record {
       fed = total (k .fed) 1;
       good = total (k .good) (t .blocks .good);
@@ -55,7 +61,7 @@ saidOf k (b ∷ bs) =
 -- the bits up to that one are heard, or all
 unfoldable pub heardOf : Kept → List ℕ → Heard
 heardOf k bits =
-    let part : List ℕ = toChange (unpacked (k .state)) bits in
+    let part : List ℕ = toChange edition (unpacked (k .state)) bits in
     record { kept = keptAfter k part; fed = length part; said = saidOf k bits }
 
 -- from one to the other some bits were fed: no contract can say which are read

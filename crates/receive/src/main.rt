@@ -5,7 +5,7 @@ ghost use mathlib.Core.Path.{_≡_};
 ghost use lib.ListN.{length};
 ghost use Rattle.block.specs.Bits.{Bits};
 ghost use Rattle.receiver.specs.Packed.{packedProper};
-ghost use Rattle.receive.specs.Totals.{keptAfter, freshKept, FedOn};
+ghost use Rattle.receive.specs.Totals.{edition, keptAfter, freshKept, FedOn};
 
 mod input;
 mod report;
@@ -39,7 +39,7 @@ fn fresh() -> Kept
 
 // Feeds all the bits and tells where lock came or went. After a line that could not be written nothing more is told.
 fn feed_all(start: Kept, bits: &[u8], more: bool) -> Piece
-    requires { ⌜ (packedProper (start .state) ≡ true) × Bits (now bits) × (length (now bits) ≤ 65536) ⌝ }
+    requires { ⌜ (packedProper edition (start .state) ≡ true) × Bits (now bits) × (length (now bits) ≤ 65536) ⌝ }
     ensures { λ p. ⌜ p .kept ≡ keptAfter start (now (bits .entry)) ⌝ }
 {
     let mut kept = start;
@@ -77,7 +77,7 @@ fn unread(kept: Kept, got: isize) -> Piece
 
 // Reads one large piece of the input and feeds its bits.
 fn read_piece(start: Kept) -> Piece
-    requires { ⌜ packedProper (start .state) ≡ true ⌝ }
+    requires { ⌜ packedProper edition (start .state) ≡ true ⌝ }
     ensures { λ p. ⌜ FedOn start (p .kept) ⌝ }
 {
     let mut buffer = io::large_buffer();

@@ -5,8 +5,9 @@ ghost use mathlib.Core.Path.{_≡_};
 ghost use lib.ListN.{length};
 ghost use Rattle.block.specs.Bits.{Bits};
 ghost use Rattle.receiver.specs.Packed.{packedProper};
-ghost use Rattle.receive.specs.Totals.{total, saidAt, heardOf};
+ghost use Rattle.receive.specs.Totals.{edition, total, saidAt, heardOf};
 use receiver::PackedState;
+use record::Edition;
 
 // The totals over the whole input so far, and the state after it, its waiting bits one number.
 pub struct Kept {
@@ -56,11 +57,12 @@ fn said_at(before: u8, after: u8, n: u64) -> Said
 
 // Feeds the bits up to the first with which lock comes or goes, or all.
 pub fn hear(kept: Kept, bits: &[u8]) -> Heard
-    requires { ⌜ (packedProper (kept .state) ≡ true) × Bits (now bits) × (0 < length (now bits)) × (length (now bits) ≤ 65536) ⌝ }
+    requires { ⌜ (packedProper edition (kept .state) ≡ true) × Bits (now bits) × (0 < length (now bits)) × (length (now bits) ≤ 65536) ⌝ }
     ensures { λ h. ⌜ h ≡ heardOf kept (now (bits .entry)) ⌝ }
 {
     let before = kept.state;
-    let stretch = receiver::run_to_change(before, bits);
+    // Nothing that is told depends on a record, so either edition would do.
+    let stretch = receiver::run_to_change(Edition::Of1984, before, bits);
     let ran = stretch.ran;
     let counts = ran.counts;
     let state = ran.state;

@@ -7,6 +7,7 @@ use borrow.Author.Tests.{ltb-true, ltb-false}
 use lib.Dec.{ltb}
 use lib.ListN.{set}
 use Rattle.block.specs.Read.{readOf}
+use Rattle.record.specs.declared.Edition.{Edition}
 use Rattle.timekeeping.proofs.Choices.{cond-elim}
 use Rattle.locking.specs.declared.Judged.{Judged}
 use Rattle.locking.specs.Modes.{noBlocks, judgedBy}
@@ -26,11 +27,12 @@ waits s w = record { blocks = noBlocks; passed = 0; next = stateOf (lockIn s) (s
 abbrev pub judges : List ℕ → Judged → Step
 judges w j = record { blocks = j .blocks; passed = j .passed; next = stateOf (j .lock) (waitingAfter j) (bitsAfter j w) }
 
--- a bit waits, or it fills the window, which is judged
-pub step-elim : (P : Step → Type 0) (s : State) (b : ℕ) → (s .waiting < 49 → P (waits s (filled s b)))
-    → (49 ≤ s .waiting → P (judges (filled s b) (judgedBy (lockIn s) (readOf (filled s b))))) → P (stepOf s b)
-unfolding stepOf judgedStep
-step-elim P s b waiting full = cond-elim P (ltb (s .waiting) 49) (λ e. waiting (ltb-true (s .waiting) 49 e)) (λ e. full (ltb-false (s .waiting) 49 e))
-
 abbrev pub mode-of : {s t : State} → s ≡ t → s .mode ≡ t .mode
 mode-of e = ap (λ (s : State). s .mode) e
+
+module _ (edition : Edition) where
+  -- a bit waits, or it fills the window, which is judged
+  pub step-elim : (P : Step → Type 0) (s : State) (b : ℕ) → (s .waiting < 49 → P (waits s (filled s b)))
+      → (49 ≤ s .waiting → P (judges (filled s b) (judgedBy edition (lockIn s) (readOf (filled s b))))) → P (stepOf edition s b)
+  unfolding stepOf judgedStep
+  step-elim P s b waiting full = cond-elim P (ltb (s .waiting) 49) (λ e. waiting (ltb-true (s .waiting) 49 e)) (λ e. full (ltb-false (s .waiting) 49 e))

@@ -8,9 +8,13 @@ use Rattle.block.specs.Bits.{valueFrom}
 use Rattle.block.specs.Division.{remainderFrom}
 use Rattle.block.specs.Block.{blockOf}
 use Rattle.block.specs.Read.{readOf}
+use Rattle.record.specs.declared.Edition.{Edition}
+use Rattle.record.specs.declared.Edition.the-variants.{Of1984, Of1982}
+use Rattle.record.specs.Editions.{isFiller, filler}
 use Rattle.record.specs.Ranges.{offsetInRange, timeInRange, kindInRange, dayInRange, inRange}
 use Rattle.record.specs.Fields.{offsetOf, fieldsOf}
 use Rattle.record.specs.Words as words
+use Rattle.calendar.specs.LeapCodes.{saysLeap}
 use Rattle.calendar.specs.Weeks.{weeksOf}
 use Rattle.calendar.specs.Dates.{usableOf}
 use Rattle.calendar.specs.NextMinute.{goOn, nextAfter, nextMinuteOf}
@@ -21,24 +25,27 @@ use Rattle.receiver.specs.States.{freshOf}
 use Rattle.receiver.specs.Steps.{judgedStep, stepOf}
 use Rattle.receiver.specs.History.{afterFrom, after}
 
-abbrev fillers : ℕ → List ℕ
-fillers zero = []
-fillers (suc n) = blockOf 0 2147483648 ++ fillers n
+abbrev blocks : ℕ → ℕ → List ℕ
+blocks word zero = []
+blocks word (suc n) = blockOf 0 word ++ blocks word n
 
--- the time after three blocks for lock, 1 January 1986, 00:00, n other blocks, and the block of so many minutes past
-abbrev timeAfter : ℕ → ℕ → ℕ
-timeAfter n minute = after (fillers 3 ++ (blockOf 0 1276510208 ++ (fillers n ++ blockOf 0 (1276510208 + 64 * minute)))) .time
+-- the time after three blocks for lock, a 1 January, 00:00, n fillers, and the block of so many minutes past
+abbrev timeAfter : Edition → ℕ → ℕ → ℕ
+timeAfter edition n minute =
+    after edition (blocks (filler edition) 3 ++ (blockOf 0 1276510208 ++ (blocks (filler edition) n ++ blockOf 0 (1276510208 + 64 * minute)))) .time
 
 pub confirming :
-    (timeAfter 28 1 ≡ candidate)
-    × (timeAfter 29 1 ≡ confirmed)
-    × (timeAfter 30 1 ≡ candidate)
-    × (timeAfter 59 1 ≡ candidate)
-    × (timeAfter 59 2 ≡ confirmed)
+    (edition : Edition) →
+    (timeAfter edition 28 1 ≡ candidate)
+    × (timeAfter edition 29 1 ≡ confirmed)
+    × (timeAfter edition 30 1 ≡ candidate)
+    × (timeAfter edition 59 1 ≡ candidate)
+    × (timeAfter edition 59 2 ≡ confirmed)
 unfolding valueFrom remainderFrom blockOf readOf
-    offsetOf fieldsOf offsetInRange timeInRange kindInRange dayInRange inRange words.readOf
-    weeksOf usableOf goOn nextAfter nextMinuteOf minutesLater
+    isFiller offsetOf fieldsOf offsetInRange timeInRange kindInRange dayInRange inRange words.readOf
+    saysLeap weeksOf usableOf goOn nextAfter nextMinuteOf minutesLater
     usableIn sameMinute follows confirms renewedBy agedBy offeredTo
     hunted tried heldOn judgedBy
     freshOf judgedStep stepOf afterFrom
-confirming = (refl, refl, refl, refl, refl)
+confirming Of1984 = (refl, refl, refl, refl, refl)
+confirming Of1982 = (refl, refl, refl, refl, refl)

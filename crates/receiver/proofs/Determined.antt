@@ -4,6 +4,7 @@ use mathlib.Core.Path.{sym, _∙_}
 use Rattle.refusal.proofs.Determined.{Determined}
 use Rattle.receiver.proofs.fresh.Reads as fresh
 use Rattle.receiver.proofs.fresh_packed.Reads as fresh-packed
+use Rattle.receiver.proofs.refused.Reads as refused
 use Rattle.receiver.proofs.run.Reads as run
 use Rattle.receiver.proofs.run_packed.Reads as run-packed
 use Rattle.receiver.proofs.run_to_change.Reads as run-to-change
@@ -30,3 +31,6 @@ run-packed-determined κs a x y s t p q = p ∙ sym q
 
 pub step-packed-determined : Determined step-packed.Post
 step-packed-determined κs a x y s t p q = p ∙ sym q
+
+pub refused-determined : Determined refused.Post
+refused-determined κs a x y s t p q = p ∙ sym q

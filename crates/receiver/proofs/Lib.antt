@@ -18,4 +18,5 @@ pub mod First
 pub mod Running
 pub mod Turning
 pub mod Changes
+pub mod Editions
 pub mod Determined

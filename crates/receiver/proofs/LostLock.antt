@@ -7,6 +7,7 @@ use mathlib.Core.Bool.{Bool, true, false}
 use borrow.Author.Tests.{eqb-true, eqb-false}
 use lib.Dec.{eqb}
 use Rattle.block.specs.Read.{readOf}
+use Rattle.record.specs.declared.Edition.{Edition}
 use Rattle.timekeeping.specs.declared.Time.{Time}
 use Rattle.timekeeping.specs.Times.{none, timeOf, noTime}
 use Rattle.locking.specs.declared.Judged.{Judged}
@@ -25,24 +26,25 @@ use Rattle.receiver.proofs.StaysProper.{bits-and-lock}
 abbrev Lost : State → Type 0
 Lost s = (s .mode ≡ locked → ⊥) → s ≡ freshOf
 
-pub lost-lock : (s : State) (b : ℕ) → s .mode ≡ locked → Lost (stepOf s b .next)
-unfolding freshOf
-lost-lock s b m =
-    step-elim (λ (t : Step). Lost (t .next)) s b (λ _ n. absurd (n m))
-    (λ _.
-    rw (held-judged (lockIn s) (readOf (filled s b)) m)
-    (held-elim (λ (j : Judged). Lost (judges (filled s b) j .next)) (s .bad) _ _ (λ n. absurd (n refl)) (λ _. refl) (λ _ n. absurd (n refl))))
+module _ (edition : Edition) where
+  pub lost-lock : (s : State) (b : ℕ) → s .mode ≡ locked → Lost (stepOf edition s b .next)
+  unfolding freshOf
+  lost-lock s b m =
+      step-elim edition (λ (t : Step). Lost (t .next)) s b (λ _ n. absurd (n m))
+      (λ _.
+      rw (held-judged edition (lockIn s) (readOf (filled s b)) m)
+      (held-elim edition (λ (j : Judged). Lost (judges (filled s b) j .next)) (s .bad) _ _ (λ n. absurd (n refl)) (λ _. refl) (λ _ n. absurd (n refl))))
 
--- ---- no time
+  -- ---- no time
 
--- a proper state that is not locked holds no time: its kind, its record and its age are 0
-pub no-time : (s : State) → properOf s ≡ true → (s .mode ≡ locked → ⊥) → timeOf (s .time) (s .held) (s .age) ≡ noTime
-no-time s e = lock-time (lockIn s) (bits-and-lock s e .1)
+  -- a proper state that is not locked holds no time: its kind, its record and its age are 0
+  pub no-time : (s : State) → properOf edition s ≡ true → (s .mode ≡ locked → ⊥) → timeOf (s .time) (s .held) (s .age) ≡ noTime
+  no-time s e = lock-time edition (lockIn s) (bits-and-lock edition s e .1)
 
--- a proper state that holds a time is locked
-pub held-locked : (s : State) → properOf s ≡ true → (s .time ≡ none → ⊥) → s .mode ≡ locked
-held-locked s e held = by (eqb (s .mode) locked) refl
-  where
-    by : (t : Bool) → eqb (s .mode) locked ≡ t → s .mode ≡ locked
-    by true m = eqb-true (s .mode) locked m
-    by false m = absurd (held (ap (λ (t : Time). t .kind) (no-time s e (eqb-false (s .mode) locked m))))
+  -- a proper state that holds a time is locked
+  pub held-locked : (s : State) → properOf edition s ≡ true → (s .time ≡ none → ⊥) → s .mode ≡ locked
+  held-locked s e held = by (eqb (s .mode) locked) refl
+    where
+      by : (t : Bool) → eqb (s .mode) locked ≡ t → s .mode ≡ locked
+      by true m = eqb-true (s .mode) locked m
+      by false m = absurd (held (ap (λ (t : Time). t .kind) (no-time s e (eqb-false (s .mode) locked m))))

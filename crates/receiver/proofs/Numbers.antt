@@ -62,13 +62,14 @@ raised w n h =
 pub raised-value : (w n : ℕ) → n < 2 ^ w → value (placesOf w n) ≡ n * 2 ^ (50 - w)
 raised-value w n h = zeros-behind (bitsOf w n) (50 - w) ∙ ap (λ (v : ℕ). v * 2 ^ (50 - w)) (val-bitsOf w n h)
 
-pub lowered : (w n : ℕ) → w ≤ 50 → n < 2 ^ 50 → n % 2 ^ (50 - w) ≡ 0
-    → (bitsOf 50 n ≡ placesOf w (n / 2 ^ (50 - w))) × (n / 2 ^ (50 - w) < 2 ^ w)
-lowered w n h k e =
+pub window-lt : (w n : ℕ) → w ≤ 50 → n < 2 ^ 50 → n / 2 ^ (50 - w) < 2 ^ w
+window-lt w n h k = let d : w + (50 - w) ≡ 50 = omega arith in shr-lt w (50 - w) (rw d k)
+
+pub lowered : (w n : ℕ) → w ≤ 50 → n % 2 ^ (50 - w) ≡ 0 → bitsOf 50 n ≡ placesOf w (n / 2 ^ (50 - w))
+lowered w n h e =
     let q : ℕ = n / 2 ^ (50 - w) in
-    let d : w + (50 - w) ≡ 50 = omega arith in
     let f : n ≡ q * 2 ^ (50 - w) = omega (arith, div-add-mod' n (2 ^ (50 - w))) in
-    (ap (bitsOf 50) f ∙ raised w q h, shr-lt w (50 - w) (rw d k))
+    ap (bitsOf 50) f ∙ raised w q h
 
 -- ---- the test
 

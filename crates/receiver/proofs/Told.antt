@@ -10,6 +10,7 @@ use borrow.Author.Tests.{eqb-true, ltb-true}
 use lib.Dec.{eqb, ltb}
 use Rattle.block.specs.Read.{readOf, refusalIn, remainderRead}
 use Rattle.block.proofs.Told.{told-with-4}
+use Rattle.record.specs.declared.Edition.{Edition}
 use Rattle.locking.specs.declared.Judged.{Judged}
 use Rattle.locking.specs.Modes.{noBlocks}
 use Rattle.locking.proofs.Choices.{judged-elim}
@@ -37,13 +38,6 @@ bad-tells w = by (eqb (refusalIn (readOf w)) 4) (told-with-4 w .0)
     by true e = (refl, e)
     by false e = eqb-true (remainderRead (readOf w)) 0 e
 
-step-tells : (s : State) (b : ℕ) → Tells (toldWith s b) (stepOf s b .blocks .remainder)
-step-tells s b =
-    let w : List ℕ = filled s b in
-    step-elim (λ (t : Step). Tells (toldBy (readOf w) (t .blocks)) (t .blocks .remainder)) s b (λ _. refl)
-    (λ _.
-    judged-elim (λ (j : Judged). Tells (toldBy (readOf w) (j .blocks)) (j .blocks .remainder)) (lockIn s) (readOf w) (λ _. refl) (λ _. bad-tells w) refl)
-
 -- ---- one after the other
 
 both-tell : (o p : Option ℕ) (a b : ℕ) → Tells o a → Tells p b → Tells (orElse p o) (later a b)
@@ -51,21 +45,29 @@ unfolding orElse
 both-tell o none a b x y = rw y x
 both-tell o (some told) a b x y = rw (y .0, y .1) (refl, refl)
 
-from-tells : (bs : List ℕ) (s : State) → Tells (lastTold s (bitsBefore bs)) (runFrom bs noBlocks 0 s .counts .remainder)
-unfolding runFrom bitsBefore lastTold
-from-tells [] s = refl
-from-tells (b ∷ bs) s = by (ltb b 2) refl (from-tells bs (stepOf s b .next))
-  where
-    by : (bit : Bool) → ltb b 2 ≡ bit → Tells (lastTold (stepOf s b .next) (bitsBefore bs)) (runFrom bs noBlocks 0 (stepOf s b .next) .counts .remainder)
-        → Tells (lastTold s (bitsBefore (b ∷ bs))) (runFrom (b ∷ bs) noBlocks 0 s .counts .remainder)
-    by true e on =
-        subst (λ (r : Ran). Tells (lastTold s (bitsBefore (b ∷ bs))) (r .counts .remainder)) (sym (from-next b bs s (ltb-true b 2 e)))
-        (rw e (both-tell (toldWith s b) (lastTold (stepOf s b .next) (bitsBefore bs)) _ _ (step-tells s b) on))
-    by false e on = rw e refl
-
 tells-or-zero : (o : Option ℕ) (r : ℕ) → Tells o r → r ≡ Option·getD o 0
 tells-or-zero none r x = x
 tells-or-zero (some told) r x = x .0
 
+module _ (edition : Edition) where
+  step-tells : (s : State) (b : ℕ) → Tells (toldWith edition s b) (stepOf edition s b .blocks .remainder)
+  step-tells s b =
+      let w : List ℕ = filled s b in
+      step-elim edition (λ (t : Step). Tells (toldBy (readOf w) (t .blocks)) (t .blocks .remainder)) s b (λ _. refl)
+      (λ _.
+      judged-elim edition (λ (j : Judged). Tells (toldBy (readOf w) (j .blocks)) (j .blocks .remainder)) (lockIn s) (readOf w) (λ _. refl) (λ _. bad-tells w) refl)
+
+  from-tells : (bs : List ℕ) (s : State) → Tells (lastTold edition s (bitsBefore bs)) (runFrom edition bs noBlocks 0 s .counts .remainder)
+  unfolding runFrom bitsBefore lastTold
+  from-tells [] s = refl
+  from-tells (b ∷ bs) s = by (ltb b 2) refl (from-tells bs (stepOf edition s b .next))
+    where
+      by : (bit : Bool) → ltb b 2 ≡ bit → Tells (lastTold edition (stepOf edition s b .next) (bitsBefore bs)) (runFrom edition bs noBlocks 0 (stepOf edition s b .next) .counts .remainder)
+          → Tells (lastTold edition s (bitsBefore (b ∷ bs))) (runFrom edition (b ∷ bs) noBlocks 0 s .counts .remainder)
+      by true e on =
+          subst (λ (r : Ran). Tells (lastTold edition s (bitsBefore (b ∷ bs))) (r .counts .remainder)) (sym (from-next edition b bs s (ltb-true b 2 e)))
+          (rw e (both-tell (toldWith edition s b) (lastTold edition (stepOf edition s b .next) (bitsBefore bs)) _ _ (step-tells s b) on))
+      by false e on = rw e refl
+
 pub run-tells : RunTells
-run-tells s bs p h = rw (run-is s bs h p) (tells-or-zero (lastTold s (bitsBefore bs)) _ (from-tells bs s))
+run-tells edition s bs p h = rw (run-is edition s bs h p) (tells-or-zero (lastTold edition s (bitsBefore bs)) _ (from-tells edition bs s))

@@ -19,6 +19,7 @@ use Rattle.block.specs.Read.{readOf}
 use Rattle.block.specs.declared.Read.{Read}
 use Rattle.block.proofs.Reading.{number-reads}
 use Rattle.block.proofs.Stream.{at-the-end, in-front}
+use Rattle.record.specs.declared.Edition.{Edition}
 use Rattle.locking.specs.declared.Blocks.{Blocks}
 use Rattle.locking.specs.declared.Judged.{Judged}
 use Rattle.locking.specs.declared.Lock.{Lock}
@@ -34,7 +35,7 @@ use Rattle.receiver.specs.Changes.{sameLock, withFed}
 use Rattle.receiver.proofs.Adding.{plus-none}
 use Rattle.receiver.proofs.StaysProper.{room, bits-and-lock}
 use Rattle.receiver.proofs.Numbers.{placesOf, joins, full, passes, used-up, raised-value, lowered, proper-number}
-use Rattle.receiver.proofs.Layouts.{proper-small, proper-unpacked}
+use Rattle.receiver.proofs.Layouts.{proper-unpacked}
 use Rattle.receiver.proofs.Running.{goesOn, same-lock, on-waits, on-judges, on-ends}
 
 -- ---- the circuit
@@ -56,92 +57,88 @@ nothing-in = refl
 
 -- ---- the start and the end
 
+-- zeros in front of the bits that wait leave nothing
+pub begun : (w n r : ℕ) → w < 50 → n < 2 ^ w → r ≡ remainder (bitsOf 49 n) → r ≡ remainder (bitsOf w n)
+begun w n r h k d = let e : 49 - w + w ≡ 49 = omega arith in d ∙ rw e at (in-front (49 - w) w n k)
+
 -- the window put back into the state
 pub put-back : (l : Lock) (w n : ℕ) → n < 2 ^ w → packedOf l w (n * 2 ^ (50 - w)) ≡ packed (stateOf l w (placesOf w n))
 put-back l w n h = rw (raised-value w n h)
-
-module _ (p : PackedState) (e : packedProper p ≡ true) where
-  pub few : p .waiting < 50
-  few = room (unpacked p) (proper-unpacked p e .proper)
-
-  window-in : (bitsOf 50 (p .bits) ≡ placesOf (p .waiting) (p .bits / 2 ^ (50 - p .waiting))) × (p .bits / 2 ^ (50 - p .waiting) < 2 ^ p .waiting)
-  window-in =
-      let w : ℕ = p .waiting in
-      let h : w ≤ 50 = omega (arith, few) in
-      let proper = bits-and-lock (unpacked p) (proper-unpacked p e .proper) .0 in
-      lowered w (p .bits) h (proper-small p e) (eqb-true (p .bits % 2 ^ (50 - w)) 0 (sym (proper-number w (p .bits) h) ∙ proper))
-
-  module _ (q : ℕ) (weight : q ≡ 2 ^ (50 - p .waiting)) where
-    pub window-lt : p .bits / q < 2 ^ p .waiting
-    window-lt = rw weight (window-in .1)
-
-    pub begun : (r : ℕ) → r ≡ remainder (bitsOf 49 (p .bits / q)) → r ≡ remainder (bitsOf (p .waiting) (p .bits / q))
-    begun r d =
-        let k : 49 - p .waiting + p .waiting ≡ 49 = omega (arith, few) in
-        d ∙ rw k at (in-front (49 - p .waiting) (p .waiting) (p .bits / q) window-lt)
-
-  -- the state taken apart and put together
-  pub entered : {l : Lock} {w n : ℕ} → l ≡ lockIn (unpacked p) → w ≡ p .waiting → n ≡ p .bits / 2 ^ (50 - p .waiting) → (stop : Bool) (bits : List ℕ)
-      → goesOn stop bits 0 noBlocks 0 (stateOf l w (placesOf w n)) ≡ goesOn stop bits 0 noBlocks 0 (unpacked p)
-  entered el ew en stop bits = rw (el, ew, en, ← window-in .0)
 
 -- ---- a full window
 
 pub reads : (v left : ℕ) → v < 2 ^ 50 → left ≡ remainder (bitsOf 49 v) → readBy v left ≡ readOf (bitsOf 50 v)
 reads v left h d = ap (readBy v) d ∙ number-reads v h
 
--- the test for passing over, and what it comes to
-module _ (l : Lock) (w : Read) (t : Bool) (e : t ≡ (eqb (l .mode) hunting && not (isGood w))) where
-  pub is-over : lockProper l ≡ true → t ≡ true → passedOver l ≡ judgedBy l w
-  is-over proper k =
-      let both = and-eq-true-iff (eqb (l .mode) hunting) _ .0 (sym e ∙ k) in
-      let m : l .mode ≡ hunting = eqb-true (l .mode) hunting (both .0) in
-      ap passedOver (hunting-fresh l proper m) ∙ sym (passes-over l w m (not-true (isGood w) (both .1)))
+module _ (edition : Edition) where
+  module _ (p : PackedState) (e : packedProper edition p ≡ true) where
+    pub few : p .waiting < 50
+    few = room edition (unpacked p) (proper-unpacked edition p e .proper)
 
-  pub not-over : t ≡ false → judgedBy l w .passed ≡ 0
-  not-over k = uses-up l w (λ m. not-false (isGood w) (rw m at (sym e ∙ k)))
+    in-places : bitsOf 50 (p .bits) ≡ placesOf (p .waiting) (p .bits / 2 ^ (50 - p .waiting))
+    in-places =
+        let w : ℕ = p .waiting in
+        let h : w ≤ 50 = omega (arith, few) in
+        let proper = bits-and-lock edition (unpacked p) (proper-unpacked edition p e .proper) .0 in
+        lowered w (p .bits) h (eqb-true (p .bits % 2 ^ (50 - w)) 0 (sym (proper-number w (p .bits) h) ∙ proper))
 
--- ---- one bit
+    -- the state taken apart and put together
+    pub entered : {l : Lock} {w n : ℕ} → l ≡ lockIn (unpacked p) → w ≡ p .waiting → n ≡ p .bits / 2 ^ (50 - p .waiting) → (stop : Bool) (bits : List ℕ)
+        → goesOn edition stop bits 0 noBlocks 0 (stateOf l w (placesOf w n)) ≡ goesOn edition stop bits 0 noBlocks 0 (unpacked p)
+    entered el ew en stop bits = rw (el, ew, en, ← in-places)
 
--- what goes on from the same lock, number and counts is the same
-pub goes-same : (stop : Bool) (bs : List ℕ) (fed passed : ℕ) {l k : Lock} {w v n m : ℕ} {a b : Blocks} → l ≡ k → w ≡ v → n ≡ m → a ≡ b
-    → goesOn stop bs fed a passed (stateOf l w (placesOf w n)) ≡ goesOn stop bs fed b passed (stateOf k v (placesOf v m))
-goes-same stop bs fed passed el ew en eb = rw (el, ew, en, eb)
+  -- the test for passing over, and what it comes to
+  module _ (l : Lock) (w : Read) (t : Bool) (e : t ≡ (eqb (l .mode) hunting && not (isGood w))) where
+    pub is-over : lockProper edition l ≡ true → t ≡ true → passedOver l ≡ judgedBy edition l w
+    is-over proper k =
+        let both = and-eq-true-iff (eqb (l .mode) hunting) _ .0 (sym e ∙ k) in
+        let m : l .mode ≡ hunting = eqb-true (l .mode) hunting (both .0) in
+        ap passedOver (hunting-fresh edition l proper m) ∙ sym (passes-over edition l w m (not-true (isGood w) (both .1)))
 
-module _ (stop : Bool) (fed : ℕ) (blocks : Blocks) (passed b : ℕ) (bs : List ℕ) (bit : b < 2) (l : Lock) (w n v : ℕ) (d : v ≡ n * 2 + b) where
-  filled : w < 50 → set (placesOf w n) w b ≡ placesOf (w + 1) v
-  filled h = rw d (joins w n b h bit)
+    pub not-over : t ≡ false → judgedBy edition l w .passed ≡ 0
+    not-over k = uses-up edition l w (λ m. not-false (isGood w) (rw m at (sym e ∙ k)))
 
-  pub more-wait : w < 49
-      → goesOn stop (b ∷ bs) fed blocks passed (stateOf l w (placesOf w n)) ≡ goesOn stop bs (fed + 1) blocks passed (stateOf l (w + 1) (placesOf (w + 1) v))
-  more-wait h =
-      on-waits stop fed blocks passed b bs bit l w (placesOf w n) h
-      ∙ ap (λ (t : List ℕ). goesOn stop bs (fed + 1) blocks passed (stateOf l (w + 1) t)) (filled (omega arith))
+  -- ---- one bit
 
-  module _ (h : w + 1 ≡ 50) (j : Judged) (e : j ≡ judgedBy l (readOf (bitsOf 50 v))) where
-    window : set (placesOf w n) w b ≡ bitsOf 50 v
-    window = filled (omega arith) ∙ ap (λ (k : ℕ). placesOf k v) h ∙ full v
+  -- what goes on from the same lock, number and counts is the same
+  pub goes-same : (stop : Bool) (bs : List ℕ) (fed passed : ℕ) {l k : Lock} {w v n m : ℕ} {a b : Blocks} → l ≡ k → w ≡ v → n ≡ m → a ≡ b
+      → goesOn edition stop bs fed a passed (stateOf l w (placesOf w n)) ≡ goesOn edition stop bs fed b passed (stateOf k v (placesOf v m))
+  goes-same stop bs fed passed el ew en eb = rw (el, ew, en, eb)
 
-    judged : j ≡ judgedBy l (readOf (set (placesOf w n) w b))
-    judged = e ∙ sym (ap (λ (t : List ℕ). judgedBy l (readOf t)) window)
+  module _ (stop : Bool) (fed : ℕ) (blocks : Blocks) (passed b : ℕ) (bs : List ℕ) (bit : b < 2) (l : Lock) (w n v : ℕ) (d : v ≡ n * 2 + b) where
+    filled : w < 50 → set (placesOf w n) w b ≡ placesOf (w + 1) v
+    filled h = rw d (joins w n b h bit)
 
-    pub goes-over : j ≡ passedOver l
-        → goesOn stop (b ∷ bs) fed blocks passed (stateOf l w (placesOf w n)) ≡ goesOn stop bs (fed + 1) blocks (passed + 1) (stateOf l 49 (placesOf 49 (v % 2 ^ 49)))
-    goes-over k =
-        rw (k, plus-none blocks, window, passes v)
-        at (on-judges stop fed blocks passed b bs bit l w (placesOf w n) (omega arith) j judged (λ _. rw k (same-lock (l .mode))))
+    pub more-wait : w < 49
+        → goesOn edition stop (b ∷ bs) fed blocks passed (stateOf l w (placesOf w n)) ≡ goesOn edition stop bs (fed + 1) blocks passed (stateOf l (w + 1) (placesOf (w + 1) v))
+    more-wait h =
+        on-waits edition stop fed blocks passed b bs bit l w (placesOf w n) h
+        ∙ ap (λ (t : List ℕ). goesOn edition stop bs (fed + 1) blocks passed (stateOf l (w + 1) t)) (filled (omega arith))
 
-    module _ (k : j .passed ≡ 0) where
-      pub goes-on : (stop ≡ true → sameLock (l .mode) (j .lock .mode) ≡ true)
-          → goesOn stop (b ∷ bs) fed blocks passed (stateOf l w (placesOf w n))
-          ≡ goesOn stop bs (fed + 1) (plus blocks (j .blocks)) passed (stateOf (j .lock) 0 (placesOf 0 0))
-      goes-on same =
-          rw (k, add-zero passed, ← used-up)
-          at (on-judges stop fed blocks passed b bs bit l w (placesOf w n) (omega arith) j judged same)
+    module _ (h : w + 1 ≡ 50) (j : Judged) (e : j ≡ judgedBy edition l (readOf (bitsOf 50 v))) where
+      window : set (placesOf w n) w b ≡ bitsOf 50 v
+      window = filled (omega arith) ∙ ap (λ (k : ℕ). placesOf k v) h ∙ full v
 
-      pub ends-here : stop ≡ true → sameLock (l .mode) (j .lock .mode) ≡ false
-          → goesOn stop (b ∷ bs) fed blocks passed (stateOf l w (placesOf w n))
-          ≡ withFed (packedRan (ended 0 (plus blocks (j .blocks)) passed (stateOf (j .lock) 0 (placesOf 0 0)))) (fed + 1)
-      ends-here stops change =
-          rw (k, add-zero passed, ← used-up)
-          at (on-ends stop fed blocks passed b bs bit l w (placesOf w n) (omega arith) j judged stops change)
+      judged : j ≡ judgedBy edition l (readOf (set (placesOf w n) w b))
+      judged = e ∙ sym (ap (λ (t : List ℕ). judgedBy edition l (readOf t)) window)
+
+      pub goes-over : j ≡ passedOver l
+          → goesOn edition stop (b ∷ bs) fed blocks passed (stateOf l w (placesOf w n)) ≡ goesOn edition stop bs (fed + 1) blocks (passed + 1) (stateOf l 49 (placesOf 49 (v % 2 ^ 49)))
+      goes-over k =
+          rw (k, plus-none blocks, window, passes v)
+          at (on-judges edition stop fed blocks passed b bs bit l w (placesOf w n) (omega arith) j judged (λ _. rw k (same-lock (l .mode))))
+
+      module _ (k : j .passed ≡ 0) where
+        pub goes-on : (stop ≡ true → sameLock (l .mode) (j .lock .mode) ≡ true)
+            → goesOn edition stop (b ∷ bs) fed blocks passed (stateOf l w (placesOf w n))
+            ≡ goesOn edition stop bs (fed + 1) (plus blocks (j .blocks)) passed (stateOf (j .lock) 0 (placesOf 0 0))
+        goes-on same =
+            rw (k, add-zero passed, ← used-up)
+            at (on-judges edition stop fed blocks passed b bs bit l w (placesOf w n) (omega arith) j judged same)
+
+        pub ends-here : stop ≡ true → sameLock (l .mode) (j .lock .mode) ≡ false
+            → goesOn edition stop (b ∷ bs) fed blocks passed (stateOf l w (placesOf w n))
+            ≡ withFed (packedRan (ended 0 (plus blocks (j .blocks)) passed (stateOf (j .lock) 0 (placesOf 0 0)))) (fed + 1)
+        ends-here stops change =
+            rw (k, add-zero passed, ← used-up)
+            at (on-ends edition stop fed blocks passed b bs bit l w (placesOf w n) (omega arith) j judged stops change)

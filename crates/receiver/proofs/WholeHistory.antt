@@ -9,6 +9,7 @@ use lib.Dec.{ltb}
 use lib.ListN.{length}
 use Rattle.block.specs.Bits.{Bits}
 use Rattle.block.proofs.Strings.{bits-append}
+use Rattle.record.specs.declared.Edition.{Edition}
 use Rattle.timekeeping.proofs.Choices.{cond-elim}
 use Rattle.locking.specs.declared.Blocks.{Blocks}
 use Rattle.locking.specs.Modes.{noBlocks}
@@ -20,34 +21,12 @@ use Rattle.receiver.specs.Runs.{runFrom, runOf}
 use Rattle.receiver.specs.History.{bitsBefore, bitsFed, ranAll, fedAll, afterFrom, after}
 use Rattle.receiver.proofs.StaysProper.{Proper, step-proper, run-proper, fresh-proper}
 
-pub after-append : (s : State) (xs ys : List ℕ) → afterFrom s (xs ++ ys) ≡ afterFrom (afterFrom s xs) ys
-unfolding afterFrom
-after-append s [] ys = refl
-after-append s (x ∷ xs) ys = after-append (stepOf s x .next) xs ys
-
--- after bits a proper state is proper
-pub after-proper : (s : State) (l : List ℕ) → Bits l → Proper s → Proper (afterFrom s l)
-unfolding afterFrom
-after-proper s [] h p = p
-after-proper s (b ∷ l) h p = after-proper (stepOf s b .next) l (h .1) (step-proper s b (h .0) p)
-
 -- ---- one run
 
 before-bits : (bs : List ℕ) → Bits (bitsBefore bs)
 unfolding bitsBefore
 before-bits [] = tt
 before-bits (b ∷ bs) = cond-elim Bits (ltb b 2) (λ e. (ltb-true b 2 e, before-bits bs)) (λ _. tt)
-
-from-after : (bs : List ℕ) (blocks : Blocks) (passed : ℕ) (s : State) → runFrom bs blocks passed s .state ≡ afterFrom s (bitsBefore bs)
-unfolding runFrom bitsBefore afterFrom
-from-after [] blocks passed s = refl
-from-after (b ∷ bs) blocks passed s =
-    cond-elim (λ (r : Ran). r .state ≡ afterFrom s (bitsBefore (b ∷ bs))) (ltb b 2) (λ e. rw e (from-after bs _ _ (stepOf s b .next))) (λ e. rw e)
-
-run-after : (s : State) (bs : List ℕ) → properOf s ≡ true → runOf s bs .state ≡ afterFrom s (bitsFed bs)
-unfolding runOf bitsFed afterFrom
-run-after s bs p =
-    rw p (cond-elim (λ (r : Ran). r .state ≡ afterFrom s (bitsFed bs)) (ltb 65536 (length bs)) (λ e. rw e) (λ e. rw e (from-after bs noBlocks 0 s)))
 
 -- ---- all runs
 
@@ -60,13 +39,36 @@ unfolding fedAll
 all-bits [] = tt
 all-bits (bs ∷ runs) = bits-append (bitsFed bs) (fedAll runs) (fed-bits bs) (all-bits runs)
 
-all-after : (s : State) (runs : List (List ℕ)) → Proper s → ranAll s runs ≡ afterFrom s (fedAll runs)
-unfolding ranAll fedAll afterFrom
-all-after s [] p = refl
-all-after s (bs ∷ runs) p =
-    all-after (runOf s bs .state) runs (run-proper s bs p)
-    ∙ ap (λ (t : State). afterFrom t (fedAll runs)) (run-after s bs (p .proper)) ∙ sym (after-append s (bitsFed bs) (fedAll runs))
+module _ (edition : Edition) where
+  pub after-append : (s : State) (xs ys : List ℕ) → afterFrom edition s (xs ++ ys) ≡ afterFrom edition (afterFrom edition s xs) ys
+  unfolding afterFrom
+  after-append s [] ys = refl
+  after-append s (x ∷ xs) ys = after-append (stepOf edition s x .next) xs ys
 
--- runs from a fresh state leave the state after what they fed
-pub runs-after : (runs : List (List ℕ)) → ranAll freshOf runs ≡ after (fedAll runs)
-runs-after runs = all-after freshOf runs fresh-proper
+  -- after bits a proper state is proper
+  pub after-proper : (s : State) (l : List ℕ) → Bits l → Proper edition s → Proper edition (afterFrom edition s l)
+  unfolding afterFrom
+  after-proper s [] h p = p
+  after-proper s (b ∷ l) h p = after-proper (stepOf edition s b .next) l (h .1) (step-proper edition s b (h .0) p)
+
+  from-after : (bs : List ℕ) (blocks : Blocks) (passed : ℕ) (s : State) → runFrom edition bs blocks passed s .state ≡ afterFrom edition s (bitsBefore bs)
+  unfolding runFrom bitsBefore afterFrom
+  from-after [] blocks passed s = refl
+  from-after (b ∷ bs) blocks passed s =
+      cond-elim (λ (r : Ran). r .state ≡ afterFrom edition s (bitsBefore (b ∷ bs))) (ltb b 2) (λ e. rw e (from-after bs _ _ (stepOf edition s b .next))) (λ e. rw e)
+
+  run-after : (s : State) (bs : List ℕ) → properOf edition s ≡ true → runOf edition s bs .state ≡ afterFrom edition s (bitsFed bs)
+  unfolding runOf bitsFed afterFrom
+  run-after s bs p =
+      rw p (cond-elim (λ (r : Ran). r .state ≡ afterFrom edition s (bitsFed bs)) (ltb 65536 (length bs)) (λ e. rw e) (λ e. rw e (from-after bs noBlocks 0 s)))
+
+  all-after : (s : State) (runs : List (List ℕ)) → Proper edition s → ranAll edition s runs ≡ afterFrom edition s (fedAll runs)
+  unfolding ranAll fedAll afterFrom
+  all-after s [] p = refl
+  all-after s (bs ∷ runs) p =
+      all-after (runOf edition s bs .state) runs (run-proper edition s bs p)
+      ∙ ap (λ (t : State). afterFrom edition t (fedAll runs)) (run-after s bs (p .proper)) ∙ sym (after-append s (bitsFed bs) (fedAll runs))
+
+  -- runs from a fresh state leave the state after what they fed
+  pub runs-after : (runs : List (List ℕ)) → ranAll edition freshOf runs ≡ after edition (fedAll runs)
+  runs-after runs = all-after freshOf runs (fresh-proper edition)

@@ -8,6 +8,7 @@ use lib.ListN.{length}
 use Rattle.refusal.specs.Numbers.{numberOf}
 use Rattle.refusal.specs.declared.Refusal.{Refusal}
 use Rattle.refusal.specs.declared.Refusal.the-variants.{RunTooLong, Improper}
+use Rattle.record.specs.declared.Edition.{Edition}
 use Rattle.locking.specs.declared.Blocks.{Blocks}
 use Rattle.locking.specs.Locks.{locked}
 use Rattle.receiver.specs.declared.PackedRan.{PackedRan}
@@ -24,23 +25,23 @@ unfoldable pub sameLock : ℕ → ℕ → Bool
 sameLock before after = cond (eqb before locked) (eqb after locked) (not (eqb after locked))
 
 -- the bits up to and with the one with which lock comes or goes; all of them where it does neither
-unfoldable pub toChange : State → List ℕ → List ℕ
-toChange s [] = []
-toChange s (b ∷ bs) =
-    let t : State = stepOf s b .next in
-    b ∷ cond (sameLock (s .mode) (t .mode)) (toChange t bs) []
+unfoldable pub toChange : Edition → State → List ℕ → List ℕ
+toChange edition s [] = []
+toChange edition s (b ∷ bs) =
+    let t : State = stepOf edition s b .next in
+    b ∷ cond (sameLock (s .mode) (t .mode)) (toChange edition t bs) []
 
 -- the bits that a run is made of: up to the change, if it is to stop there, or all
-abbrev pub upTo : Bool → State → List ℕ → List ℕ
-upTo stop s bs = cond stop (toChange s bs) bs
+abbrev pub upTo : Edition → Bool → State → List ℕ → List ℕ
+upTo edition stop s bs = cond stop (toChange edition s bs) bs
 
 -- a run, and how many bits it fed
 abbrev pub withFed : PackedRan → ℕ → Stretch
 withFed ran fed = record { ran = ran; fed = fed }
 
 -- the bits one after the other, with what was fed and counted before; those before the first that is no bit are fed
-abbrev pub stretchFrom : List ℕ → ℕ → Blocks → ℕ → State → Stretch
-stretchFrom bs fed blocks passed s = withFed (packedRan (runFrom bs blocks passed s)) (fed + length (bitsBefore bs))
+abbrev pub stretchFrom : Edition → List ℕ → ℕ → Blocks → ℕ → State → Stretch
+stretchFrom edition bs fed blocks passed s = withFed (packedRan (runFrom edition bs blocks passed s)) (fed + length (bitsBefore bs))
 
 -- refused before any bit is fed
 abbrev pub refusedStretch : Refusal → PackedState → Stretch
@@ -48,11 +49,11 @@ refusedStretch why p = withFed (refusedPacked (numberOf why) p) 0
 
 -- More than 65,536 bits get 9, then a state that is not proper 10. Else it is the run of the bits up to where it stops; those
 -- before the first that is no bit are fed
-unfoldable pub stretchOf : Bool → PackedState → List ℕ → Stretch
-stretchOf stop p bs =
-    let fed : List ℕ = upTo stop (unpacked p) bs in
+unfoldable pub stretchOf : Edition → Bool → PackedState → List ℕ → Stretch
+stretchOf edition stop p bs =
+    let fed : List ℕ = upTo edition stop (unpacked p) bs in
     cond (ltb 65536 (length bs)) (refusedStretch RunTooLong p)
-    (cond (packedProper p) (withFed (packedRan (runOf (unpacked p) fed)) (length (bitsBefore fed))) (refusedStretch Improper p))
+    (cond (packedProper edition p) (withFed (packedRan (runOf edition (unpacked p) fed)) (length (bitsBefore fed))) (refusedStretch Improper p))
 
-abbrev pub runToChange : PackedState → List ℕ → Stretch
-runToChange p bs = stretchOf true p bs
+abbrev pub runToChange : Edition → PackedState → List ℕ → Stretch
+runToChange edition p bs = stretchOf edition true p bs

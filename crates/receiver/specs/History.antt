@@ -9,6 +9,7 @@ use lib.Dec.{ltb}
 use lib.ListN.{length, take, drop}
 use Rattle.block.specs.Read.{readOf}
 use Rattle.block.specs.declared.Read.{Read}
+use Rattle.record.specs.declared.Edition.{Edition}
 use Rattle.record.specs.declared.Record.{Record}
 use Rattle.record.specs.declared.Recorded.the-variants.{Given}
 use Rattle.timekeeping.specs.Times.{noTime, usableIn, follows}
@@ -29,25 +30,25 @@ unfoldable pub bitsFed : List ℕ → List ℕ
 bitsFed bs = cond (ltb 65536 (length bs)) [] (bitsBefore bs)
 
 -- runs one after the other, whatever each is refused with: the state after them, and the history that they fed
-unfoldable pub ranAll : State → List (List ℕ) → State
-ranAll s [] = s
-ranAll s (bs ∷ runs) = ranAll (runOf s bs .state) runs
+unfoldable pub ranAll : Edition → State → List (List ℕ) → State
+ranAll edition s [] = s
+ranAll edition s (bs ∷ runs) = ranAll edition (runOf edition s bs .state) runs
 
 unfoldable pub fedAll : List (List ℕ) → List ℕ
 fedAll [] = []
 fedAll (bs ∷ runs) = bitsFed bs ++ fedAll runs
 
 -- the state after a history of any length, one bit after the other
-unfoldable pub afterFrom : State → List ℕ → State
-afterFrom s [] = s
-afterFrom s (b ∷ bs) = afterFrom (stepOf s b .next) bs
+unfoldable pub afterFrom : Edition → State → List ℕ → State
+afterFrom edition s [] = s
+afterFrom edition s (b ∷ bs) = afterFrom edition (stepOf edition s b .next) bs
 
-abbrev pub after : List ℕ → State
-after history = afterFrom freshOf history
+abbrev pub after : Edition → List ℕ → State
+after edition history = afterFrom edition freshOf history
 
 -- the state after the first n bits of a history
-abbrev pub afterFirst : ℕ → List ℕ → State
-afterFirst n history = after (take n history)
+abbrev pub afterFirst : Edition → ℕ → List ℕ → State
+afterFirst edition n history = after edition (take n history)
 
 -- the fifty bits that end after the first n
 abbrev pub windowTo : ℕ → List ℕ → List ℕ
@@ -66,62 +67,62 @@ abbrev pub GoodBlock : List ℕ → ℕ → Type 0
 GoodBlock history n = BlockTo (λ w. isGood w ≡ true) history n
 
 -- a usable time block with the record r
-abbrev pub TimeBlock : List ℕ → ℕ → Record → Type 0
-TimeBlock history n r = BlockTo (λ w. usableIn w ≡ Given r) history n
+abbrev pub TimeBlock : Edition → List ℕ → ℕ → Record → Type 0
+TimeBlock edition history n r = BlockTo (λ w. usableIn edition w ≡ Given r) history n
 
 -- the block that ends after the first n bits was judged in its place: the lock after it is what its window makes of the lock
 -- before it, and all fifty bits are used up
-abbrev pub JudgedInPlace : List ℕ → ℕ → Type 0
-JudgedInPlace history n =
-    afterFirst n history ≡ nothingWaits (judgedBy (lockIn (afterFirst (n - 50) history)) (readOf (windowTo n history)) .lock)
+abbrev pub JudgedInPlace : Edition → List ℕ → ℕ → Type 0
+JudgedInPlace edition history n =
+    afterFirst edition n history ≡ nothingWaits (judgedBy edition (lockIn (afterFirst edition (n - 50) history)) (readOf (windowTo n history)) .lock)
 
 -- ---- the lock
 
 -- locked after the first n bits and after every bit since
-abbrev pub LockedSince : List ℕ → ℕ → Type 0
-LockedSince history n = (m : ℕ) → n ≤ m → m ≤ length history → afterFirst m history .mode ≡ locked
+abbrev pub LockedSince : Edition → List ℕ → ℕ → Type 0
+LockedSince edition history n = (m : ℕ) → n ≤ m → m ≤ length history → afterFirst edition m history .mode ≡ locked
 
 -- an earned lock: three good blocks one after the other, the last ending after n bits. Lock came with the last of these bits,
 -- with no run of bad blocks and no time, and was not lost since. The history goes on with whole blocks, each judged in its
 -- place, and then with the bits that wait, which left the lock as it was
-pub record EarnedLock (history : List ℕ) (s : State) : Type 0 where
+pub record EarnedLock (edition : Edition) (history : List ℕ) (s : State) : Type 0 where
   pub n : ℕ
   pub first : GoodBlock history (n - 100)
   pub second : GoodBlock history (n - 50)
   pub third : GoodBlock history n
-  pub before : afterFirst (n - 1) history .mode ≡ locked → ⊥
-  pub came : afterFirst n history ≡ nothingWaits (lockOf locked 0 0 noTime)
-  pub unbroken : LockedSince history n
+  pub before : afterFirst edition (n - 1) history .mode ≡ locked → ⊥
+  pub came : afterFirst edition n history ≡ nothingWaits (lockOf locked 0 0 noTime)
+  pub unbroken : LockedSince edition history n
   pub blocks : ℕ
-  pub judged : (k : ℕ) → 0 < k → k ≤ blocks → JudgedInPlace history (n + 50 * k)
+  pub judged : (k : ℕ) → 0 < k → k ≤ blocks → JudgedInPlace edition history (n + 50 * k)
   pub whole : length history ≡ n + 50 * blocks + s .waiting
   pub room : s .waiting < 50
-  pub kept : lockIn s ≡ lockIn (afterFirst (n + 50 * blocks) history)
+  pub kept : lockIn s ≡ lockIn (afterFirst edition (n + 50 * blocks) history)
 
 -- ---- the time
 
 -- the record that s holds is that of the block that ended after n bits, and its age is the number of whole blocks since
-pub record HeldFrom (history : List ℕ) (s : State) (n : ℕ) : Type 0 where
-  pub block : TimeBlock history n (s .held)
+pub record HeldFrom (edition : Edition) (history : List ℕ) (s : State) (n : ℕ) : Type 0 where
+  pub block : TimeBlock edition history n (s .held)
   pub aged : length history ≡ n + 50 * s .age + s .waiting
   pub room : s .waiting < 50
 
 -- a held time: the block of its record ended after n bits; lock was there when that block began, and was not lost since
-pub record Held (history : List ℕ) (s : State) : Type 0 where
+pub record Held (edition : Edition) (history : List ℕ) (s : State) : Type 0 where
   pub n : ℕ
-  pub from : HeldFrom history s n
-  pub unbroken : LockedSince history (n - 50)
+  pub from : HeldFrom edition history s n
+  pub unbroken : LockedSince edition history (n - 50)
 
 -- an earned time: for one to four minutes, a usable time block ended after n bits, and the block of the held record as many times
 -- 1,500 bits later; the held record is that many minutes after the earlier one, the offset aside; and lock was there when the
 -- earlier block began, and was not lost since (02, No. 5)
-pub record Earned (history : List ℕ) (s : State) : Type 0 where
+pub record Earned (edition : Edition) (history : List ℕ) (s : State) : Type 0 where
   pub n : ℕ
   pub minutes : ℕ
   pub from-one : 1 ≤ minutes
   pub to-four : minutes ≤ 4
   pub earlier : Record
-  pub block : TimeBlock history n earlier
-  pub from : HeldFrom history s (n + 1500 * minutes)
-  pub later : follows minutes earlier (s .held) ≡ true
-  pub unbroken : LockedSince history (n - 50)
+  pub block : TimeBlock edition history n earlier
+  pub from : HeldFrom edition history s (n + 1500 * minutes)
+  pub later : follows edition minutes earlier (s .held) ≡ true
+  pub unbroken : LockedSince edition history (n - 50)

@@ -8,6 +8,7 @@ use lib.ListN.{length}
 use Rattle.block.specs.Bits.{bitsOf, value}
 use Rattle.refusal.specs.Numbers.{numberOf}
 use Rattle.refusal.specs.declared.Refusal.the-variants.{RunTooLong, Improper}
+use Rattle.record.specs.declared.Edition.{Edition}
 use Rattle.timekeeping.specs.Times.{timeOf}
 use Rattle.locking.specs.declared.Blocks.{Blocks}
 use Rattle.locking.specs.declared.Lock.{Lock}
@@ -47,8 +48,8 @@ abbrev pub freshPacked : PackedState
 freshPacked = packedOf freshLock 0 0
 
 -- no bit stands above place 49, and the state in fifty places is proper: so the places not in use are 0
-unfoldable pub packedProper : PackedState → Bool
-packedProper p = ltb (p .bits) (2 ^ 50) && properOf (unpacked p)
+unfoldable pub packedProper : Edition → PackedState → Bool
+packedProper edition p = ltb (p .bits) (2 ^ 50) && properOf edition (unpacked p)
 
 -- ---- the calls
 
@@ -65,11 +66,11 @@ abbrev pub refusedPacked : ℕ → PackedState → PackedRan
 refusedPacked refusal p = record { counts = countsOf refusal noBlocks 0 0; state = p }
 
 -- a run longer than 65,536 gets 9, then a state that is not proper 10; else it is the run of the fifty places
-unfoldable pub runPacked : PackedState → List ℕ → PackedRan
-runPacked p bs =
+unfoldable pub runPacked : Edition → PackedState → List ℕ → PackedRan
+runPacked edition p bs =
     cond (ltb 65536 (length bs)) (refusedPacked (numberOf RunTooLong) p)
-    (cond (packedProper p) (packedRan (runOf (unpacked p) bs)) (refusedPacked (numberOf Improper) p))
+    (cond (packedProper edition p) (packedRan (runOf edition (unpacked p) bs)) (refusedPacked (numberOf Improper) p))
 
 -- one fed bit: a state that is not proper gets 10; else it is the bit fed to the fifty places
-unfoldable pub fedPacked : PackedState → ℕ → PackedRan
-fedPacked p b = cond (packedProper p) (packedRan (fedOf (unpacked p) b)) (refusedPacked (numberOf Improper) p)
+unfoldable pub fedPacked : Edition → PackedState → ℕ → PackedRan
+fedPacked edition p b = cond (packedProper edition p) (packedRan (fedOf edition (unpacked p) b)) (refusedPacked (numberOf Improper) p)

@@ -8,6 +8,7 @@ use lib.Dec.{eqb, ltb}
 use lib.ListN.{length}
 use Rattle.refusal.specs.Numbers.{numberOf}
 use Rattle.refusal.specs.declared.Refusal.the-variants.{NotABit, RunTooLong, Improper}
+use Rattle.record.specs.declared.Edition.{Edition}
 use Rattle.locking.specs.declared.Blocks.{Blocks}
 use Rattle.locking.specs.Modes.{blocksOf, noBlocks}
 use Rattle.receiver.specs.declared.Counts.{Counts}
@@ -37,25 +38,25 @@ abbrev pub ended : ℕ → Blocks → ℕ → State → Ran
 ended refusal blocks passed s = record { counts = countsOf refusal blocks passed (s .waiting); state = s }
 
 -- the bits one after the other, with what was counted before, up to the first that is neither 0 nor 1
-unfoldable pub runFrom : List ℕ → Blocks → ℕ → State → Ran
-runFrom [] blocks passed s = ended 0 blocks passed s
-runFrom (b ∷ bs) blocks passed s =
-    let t : Step = stepOf s b in
-    cond (ltb b 2) (runFrom bs (plus blocks (t .blocks)) (passed + t .passed) (t .next)) (ended (numberOf NotABit) blocks passed s)
+unfoldable pub runFrom : Edition → List ℕ → Blocks → ℕ → State → Ran
+runFrom edition [] blocks passed s = ended 0 blocks passed s
+runFrom edition (b ∷ bs) blocks passed s =
+    let t : Step = stepOf edition s b in
+    cond (ltb b 2) (runFrom edition bs (plus blocks (t .blocks)) (passed + t .passed) (t .next)) (ended (numberOf NotABit) blocks passed s)
 
 -- refused before any bit is fed: nothing is counted or told
 abbrev pub refusedRun : ℕ → State → Ran
 refusedRun refusal s = record { counts = countsOf refusal noBlocks 0 0; state = s }
 
 -- a run longer than 65,536 gets 9, then a state that is not proper 10
-unfoldable pub runOf : State → List ℕ → Ran
-runOf s bs =
+unfoldable pub runOf : Edition → State → List ℕ → Ran
+runOf edition s bs =
     cond (ltb 65536 (length bs)) (refusedRun (numberOf RunTooLong) s)
-    (cond (properOf s) (runFrom bs noBlocks 0 s) (refusedRun (numberOf Improper) s))
+    (cond (properOf edition s) (runFrom edition bs noBlocks 0 s) (refusedRun (numberOf Improper) s))
 
 -- one fed bit: a state that is not proper gets 10, then a bit that is none 1
-unfoldable pub fedOf : State → ℕ → Ran
-fedOf s b =
-    let t : Step = stepOf s b in
-    cond (properOf s) (cond (ltb b 2) (ended 0 (t .blocks) (t .passed) (t .next)) (ended (numberOf NotABit) noBlocks 0 s))
+unfoldable pub fedOf : Edition → State → ℕ → Ran
+fedOf edition s b =
+    let t : Step = stepOf edition s b in
+    cond (properOf edition s) (cond (ltb b 2) (ended 0 (t .blocks) (t .passed) (t .next)) (ended (numberOf NotABit) noBlocks 0 s))
     (refusedRun (numberOf Improper) s)

@@ -5,6 +5,7 @@ use mathlib.Core.Bool.{Bool, true, _&&_}
 use mathlib.Core.List.{List, [], _∷_}
 use lib.Dec.{eqb, ltb}
 use Rattle.block.specs.Bits.{zeros}
+use Rattle.record.specs.declared.Edition.{Edition}
 use Rattle.timekeeping.specs.Times.{timeOf}
 use Rattle.locking.specs.declared.Lock.{Lock}
 use Rattle.locking.specs.Locks.{lockOf, freshLock, lockProper}
@@ -45,5 +46,5 @@ bitsProper zero (b ∷ bs) = eqb b 0 && bitsProper zero bs
 bitsProper (suc n) (b ∷ bs) = ltb b 2 && bitsProper n bs
 
 -- 0 to 49 bits wait, each 0 or 1
-unfoldable pub properOf : State → Bool
-properOf s = ltb (s .waiting) 50 && (bitsProper (s .waiting) (s .bits) && lockProper (lockIn s))
+unfoldable pub properOf : Edition → State → Bool
+properOf edition s = ltb (s .waiting) 50 && (bitsProper (s .waiting) (s .bits) && lockProper edition (lockIn s))

@@ -7,6 +7,7 @@ use lib.Dec.{eqb, ltb}
 use lib.ListN.{drop, set}
 use Rattle.block.specs.Bits.{zeros}
 use Rattle.block.specs.Read.{readOf}
+use Rattle.record.specs.declared.Edition.{Edition}
 use Rattle.locking.specs.declared.Blocks.{Blocks}
 use Rattle.locking.specs.declared.Judged.{Judged}
 use Rattle.locking.specs.Modes.{noBlocks, judgedBy}
@@ -27,13 +28,13 @@ abbrev pub bitsAfter : Judged → List ℕ → List ℕ
 bitsAfter j w = cond (eqb (j .passed) 1) (drop 1 w ++ (0 ∷ [])) (zeros 50)
 
 -- a full window is judged
-unfoldable pub judgedStep : State → List ℕ → Step
-judgedStep s w =
-    let j : Judged = judgedBy (lockIn s) (readOf w) in
+unfoldable pub judgedStep : Edition → State → List ℕ → Step
+judgedStep edition s w =
+    let j : Judged = judgedBy edition (lockIn s) (readOf w) in
     record { blocks = j .blocks; passed = j .passed; next = stateOf (j .lock) (waitingAfter j) (bitsAfter j w) }
 
 -- the bit takes the first place that is not in use
-unfoldable pub stepOf : State → ℕ → Step
-stepOf s b =
+unfoldable pub stepOf : Edition → State → ℕ → Step
+stepOf edition s b =
     let w : List ℕ = set (s .bits) (s .waiting) b in
-    cond (ltb (s .waiting) 49) (record { blocks = noBlocks; passed = 0; next = stateOf (lockIn s) (s .waiting + 1) w }) (judgedStep s w)
+    cond (ltb (s .waiting) 49) (record { blocks = noBlocks; passed = 0; next = stateOf (lockIn s) (s .waiting + 1) w }) (judgedStep edition s w)

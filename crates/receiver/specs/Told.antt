@@ -10,6 +10,7 @@ use lib.Dec.{eqb}
 use lib.ListN.{length, set}
 use Rattle.block.specs.declared.Read.{Read}
 use Rattle.block.specs.Read.{readOf, refusalIn, remainderRead}
+use Rattle.record.specs.declared.Edition.{Edition}
 use Rattle.locking.specs.declared.Blocks.{Blocks}
 use Rattle.receiver.specs.declared.State.{State}
 use Rattle.receiver.specs.States.{properOf}
@@ -22,15 +23,15 @@ abbrev pub toldBy : Read → Blocks → Option ℕ
 toldBy w blocks = cond (eqb (blocks .bad) 1 && eqb (refusalIn w) 4) (some (remainderRead w)) none
 
 -- that of the window which this bit fills, if it fills one
-abbrev pub toldWith : State → ℕ → Option ℕ
-toldWith s b = toldBy (readOf (set (s .bits) (s .waiting) b)) (stepOf s b .blocks)
+abbrev pub toldWith : Edition → State → ℕ → Option ℕ
+toldWith edition s b = toldBy (readOf (set (s .bits) (s .waiting) b)) (stepOf edition s b .blocks)
 
 -- the last of all the bits': that of the later ones, or else of the first
-unfoldable pub lastTold : State → List ℕ → Option ℕ
+unfoldable pub lastTold : Edition → State → List ℕ → Option ℕ
 unfolding orElse
-lastTold s [] = none
-lastTold s (b ∷ bs) = orElse (lastTold (stepOf s b .next) bs) (toldWith s b)
+lastTold edition s [] = none
+lastTold edition s (b ∷ bs) = orElse (lastTold edition (stepOf edition s b .next) bs) (toldWith edition s b)
 
 -- a run that is not refused with 9 or 10 tells it of the bits that it fed, or 0 where there is none
 abbrev pub RunTells : Type 0
-RunTells = (s : State) (bs : List ℕ) → properOf s ≡ true → length bs ≤ 65536 → runOf s bs .counts .remainder ≡ Option·getD (lastTold s (bitsBefore bs)) 0
+RunTells = (edition : Edition) (s : State) (bs : List ℕ) → properOf edition s ≡ true → length bs ≤ 65536 → runOf edition s bs .counts .remainder ≡ Option·getD (lastTold edition s (bitsBefore bs)) 0

@@ -16,6 +16,7 @@ use block::Packed;
 use block::read_by;
 use locking::Blocks;
 use locking::judge;
+use record::Edition;
 use record::Record;
 use refusal::Refusal;
 use states::is_proper;
@@ -111,7 +112,7 @@ fn counted(refusal: u8, blocks: Blocks, waited: u32, fed: usize, state: PackedSt
 }
 
 // Refused before any bit is fed: nothing is counted or told.
-fn refused(why: Refusal) -> Counts
+pub fn refused(why: Refusal) -> Counts
     ensures { λ r. ⌜ r ≡ countsOf (numberOf why) noBlocks 0 0 ⌝ }
 {
     Counts {
@@ -164,9 +165,9 @@ fn ends(stop: bool, before: u8, after: u8) -> bool
 }
 
 // The bits one after the other. The circuit turns once for each; a full window is passed over by one bit, or judged and used up.
-fn feed_all(state: PackedState, bits: &[u8], stop: bool) -> Stretch
-    requires { ⌜ (packedProper state ≡ true) × (length (now bits) ≤ 65536) ⌝ }
-    ensures { λ r. ⌜ r ≡ stretchFrom (upTo stop (unpacked state) (now (bits .entry))) 0 noBlocks 0 (unpacked state) ⌝ }
+fn feed_all(edition: Edition, state: PackedState, bits: &[u8], stop: bool) -> Stretch
+    requires { ⌜ (packedProper edition state ≡ true) × (length (now bits) ≤ 65536) ⌝ }
+    ensures { λ r. ⌜ r ≡ stretchFrom edition (upTo edition stop (unpacked state) (now (bits .entry))) 0 noBlocks 0 (unpacked state) ⌝ }
 {
     let mut lock = lock_in(state);
     let mut window = window_in(state);
@@ -185,7 +186,7 @@ fn feed_all(state: PackedState, bits: &[u8], stop: bool) -> Stretch
             if is_passed_over(lock.mode, window) {
                 window = move_on(window, left);
             } else {
-                let judged = judge(lock, read_by(window.bits, left as u16));
+                let judged = judge(edition, lock, read_by(window.bits, left as u16));
                 let one = judged.blocks;
                 blocks = more(blocks, one);
                 let before = lock.mode;
@@ -203,11 +204,11 @@ fn feed_all(state: PackedState, bits: &[u8], stop: bool) -> Stretch
 }
 
 // A run of all the bits or, where it is to stop there, of those up to the one with which lock changes.
-fn limited(state: PackedState, bits: &[u8], stop: bool) -> Stretch
-    ensures { λ r. ⌜ r ≡ stretchOf stop state (now (bits .entry)) ⌝ }
+fn limited(edition: Edition, state: PackedState, bits: &[u8], stop: bool) -> Stretch
+    ensures { λ r. ⌜ r ≡ stretchOf edition stop state (now (bits .entry)) ⌝ }
 {
     let long = 65536 < bits.len();
-    let improper = !is_proper(state);
+    let improper = !is_proper(edition, state);
     if long {
         let ran = PackedRan {
             counts: refused(Refusal::RunTooLong),
@@ -222,29 +223,29 @@ fn limited(state: PackedState, bits: &[u8], stop: bool) -> Stretch
         };
         return Stretch { ran, fed: 0 };
     }
-    feed_all(state, bits, stop)
+    feed_all(edition, state, bits, stop)
 }
 
 // A run of bits, by value.
-pub fn run_packed(state: PackedState, bits: &[u8]) -> PackedRan
-    ensures { λ r. ⌜ r ≡ runPacked state (now (bits .entry)) ⌝ }
+pub fn run_packed(edition: Edition, state: PackedState, bits: &[u8]) -> PackedRan
+    ensures { λ r. ⌜ r ≡ runPacked edition state (now (bits .entry)) ⌝ }
 {
-    let all = limited(state, bits, false);
+    let all = limited(edition, state, bits, false);
     all.ran
 }
 
 // A run that ends with the bit with which lock comes or goes, or with the last bit.
-pub fn run_to_change(state: PackedState, bits: &[u8]) -> Stretch
-    ensures { λ r. ⌜ r ≡ runToChange state (now (bits .entry)) ⌝ }
+pub fn run_to_change(edition: Edition, state: PackedState, bits: &[u8]) -> Stretch
+    ensures { λ r. ⌜ r ≡ runToChange edition state (now (bits .entry)) ⌝ }
 {
-    limited(state, bits, true)
+    limited(edition, state, bits, true)
 }
 
 // One bit, by value: the run of that bit alone.
-pub fn step_packed(state: PackedState, bit: u8) -> PackedRan
-    ensures { λ r. ⌜ r ≡ fedPacked state bit ⌝ }
+pub fn step_packed(edition: Edition, state: PackedState, bit: u8) -> PackedRan
+    ensures { λ r. ⌜ r ≡ fedPacked edition state bit ⌝ }
 {
-    run_packed(state, &[bit])
+    run_packed(edition, state, &[bit])
 }
 
 // ---- with the waiting bits in fifty places: packed, run and unpacked
@@ -255,13 +256,13 @@ pub fn fresh() -> State
     unpack(fresh_packed())
 }
 
-pub fn run(state: State, bits: &[u8]) -> Ran
-    ensures { λ r. ⌜ r ≡ runOf state (now (bits .entry)) ⌝ }
+pub fn run(edition: Edition, state: State, bits: &[u8]) -> Ran
+    ensures { λ r. ⌜ r ≡ runOf edition state (now (bits .entry)) ⌝ }
 {
     let places = state.bits;
     match block::pack(&places) {
         Packed::Number(number) => {
-            let ran = run_packed(packed_with(state, number), bits);
+            let ran = run_packed(edition, packed_with(state, number), bits);
             let next = ran.state;
             let counts = ran.counts;
             let state = unpack(next);
@@ -278,8 +279,8 @@ pub fn run(state: State, bits: &[u8]) -> Ran
     }
 }
 
-pub fn step(state: State, bit: u8) -> Ran
-    ensures { λ r. ⌜ r ≡ fedOf state bit ⌝ }
+pub fn step(edition: Edition, state: State, bit: u8) -> Ran
+    ensures { λ r. ⌜ r ≡ fedOf edition state bit ⌝ }
 {
-    run(state, &[bit])
+    run(edition, state, &[bit])
 }

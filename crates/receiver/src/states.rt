@@ -9,6 +9,7 @@ use crate::State;
 use crate::windows::Window;
 use crate::windows::weight;
 use locking::Lock;
+use record::Edition;
 use timekeeping::Time;
 
 pub fn lock_in(state: PackedState) -> Lock
@@ -57,8 +58,8 @@ pub fn kept(lock: Lock, window: Window) -> PackedState
     )
 }
 
-pub fn is_proper(state: PackedState) -> bool
-    ensures { λ t. ⌜ t ≡ packedProper state ⌝ }
+pub fn is_proper(edition: Edition, state: PackedState) -> bool
+    ensures { λ t. ⌜ t ≡ packedProper edition state ⌝ }
 {
     let waiting = state.waiting as u32;
     let bits = state.bits;
@@ -69,7 +70,7 @@ pub fn is_proper(state: PackedState) -> bool
         return false;
     }
     if bits % weight(waiting) == 0 {
-        locking::is_proper(lock_in(state))
+        locking::is_proper(edition, lock_in(state))
     } else {
         false
     }

@@ -8,7 +8,6 @@ ghost use Rattle.block.specs.Division.{remainder};
 ghost use Rattle.block.specs.Read.{readOf};
 ghost use Rattle.locking.specs.Locks.{hunting};
 ghost use Rattle.locking.specs.Modes.{isGood};
-ghost use Rattle.receiver.specs.Packed.{packedProper};
 ghost use Rattle.receiver.specs.Windows.{Turned};
 use crate::PackedState;
 use block::circuit::remainder;
@@ -30,7 +29,7 @@ pub fn weight(waiting: u32) -> u64
 
 // The bits that wait in a state.
 pub fn window_in(state: PackedState) -> Window
-    requires { ⌜ packedProper state ≡ true ⌝ }
+    requires { ⌜ (state .waiting < 50) × (state .bits < 2 ^ 50) ⌝ }
     ensures { λ w. ⌜ (w .waiting ≡ state .waiting) × (w .bits ≡ state .bits / 2 ^ (50 - state .waiting)) × Turned w ⌝ }
 {
     let waiting = state.waiting as u32;

@@ -2,12 +2,16 @@
 -- Assumes nothing.
 use mathlib.Core.Path.{sym, _∙_}
 use Rattle.refusal.proofs.Determined.{Determined}
+use Rattle.record.proofs.edition_of.Reads as edition-of
 use Rattle.record.proofs.read_record.Reads as read-record
 use Rattle.record.proofs.write_record.Reads as write-record
 use Rattle.record.proofs.in_range.Reads as in-range
 use Rattle.record.proofs.time_in_range.Reads as time-in-range
 use Rattle.record.proofs.within.Reads as within
 use Rattle.record.proofs.zeros.Reads as zeros
+
+pub edition-of-determined : Determined edition-of.Post
+edition-of-determined κs a x y s t p q = p ∙ sym q
 
 pub read-record-determined : Determined read-record.Post
 read-record-determined κs a x y s t p q = p ∙ sym q

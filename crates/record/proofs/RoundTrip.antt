@@ -2,20 +2,24 @@
 -- Assumes nothing.
 use Prim.Native.Nat.{ℕ, _+_, _*_, _-_, _/_, _^_, _<_, _≤_}
 use native.Mathlib.Omega.{arith}
-use mathlib.Core.Path.{_≡_, refl}
-use mathlib.Core.Bool.{Bool, true, false, cond, and-eq-true-iff}
-use borrow.Author.Tests.{eq-eqb, lt-ltb, le-ltb, leb-true, eqb-true}
+use mathlib.Core.Path.{_≡_, refl, ap}
+use mathlib.Core.Bool.{Bool, true, false, cond, _&&_, and-eq-true-iff}
+use borrow.Author.Tests.{ne-eqb, lt-ltb, le-ltb, leb-true, eqb-true}
 use lib.Dec.{eqb, ltb, leb}
 use lib.IntN.{ℤ, pos, negsuc}
 use Rattle.refusal.specs.declared.Refusal.{Refusal}
 use Rattle.refusal.specs.declared.Refusal.the-variants.{NotARecord, OutOfRange}
+use Rattle.record.specs.declared.Edition.{Edition}
+use Rattle.record.specs.declared.Edition.the-variants.{Of1984, Of1982}
 use Rattle.record.specs.declared.Record.{Record}
 use Rattle.record.specs.declared.Recorded.the-variants as recorded
 use Rattle.record.specs.declared.Worded.the-variants as worded
 use Rattle.record.specs.Fields.{field, flagOf, offsetOf, sixOf, fieldsOf, wordOf}
+use Rattle.record.specs.Editions.{isFiller}
 use Rattle.record.specs.Ranges.{offsetInRange, inRange}
 use Rattle.record.specs.Words.{readOf, writtenOf}
-use Rattle.record.proofs.Tests.{chosen, not-given}
+use Rattle.record.proofs.Tests.{chosen, passed, not-given}
+use Rattle.record.proofs.Reading.{read-fields}
 use Rattle.record.proofs.Offset.{six-fits}
 use Rattle.record.proofs.Bounds.{Bounds, bounds}
 
@@ -56,6 +60,12 @@ flag-zero : (r : Record) → Bounds r → flagOf (wordOf r) ≡ 0
 unfolding wordOf
 flag-zero r b = omega (arith, six-fits (r .offset) (b .time .offset-in))
 
+-- it is no filler: in 1984 by its flag, in 1982 by its start day
+not-filler : (edition : Edition) (r : Record) → Bounds r → isFiller edition (wordOf r) ≡ false
+unfolding isFiller fieldsOf
+not-filler Of1984 r b = ne-eqb (flagOf (wordOf r)) 1 (λ one. omega (arith, flag-zero r b))
+not-filler Of1982 r b = let start = ap (λ (s : Record). s .«start_day») (fields-back r b) in ne-eqb (field (wordOf r) 26 6) 0 (λ none. omega (arith, start))
+
 -- the word that is put together from a word's fields
 word-back : (word : ℕ) → word < 2 ^ 31 → wordOf (fieldsOf word) ≡ word
 unfolding fieldsOf wordOf
@@ -74,22 +84,24 @@ word-back word h =
 not-word : (why : Refusal) (word : ℕ) → worded.Refused why ≡ worded.Given word → ⊥
 not-word why word e = let z : _≡_ {A = ℕ} 0 1 = cc in omega arith
 
--- what is written reads back as the same record
-pub written-reads : (r : Record) (word : ℕ) → writtenOf r ≡ worded.Given word → readOf 0 word ≡ recorded.Given r
-unfolding writtenOf readOf
-written-reads r word e =
-    let c = chosen (inRange r) (worded.Given (wordOf r)) (worded.Refused OutOfRange) (worded.Given word) (not-word OutOfRange word) e in
+-- what is written reads back as the same record, in both editions
+pub written-reads : (edition : Edition) (r : Record) (word : ℕ) → writtenOf r ≡ worded.Given word → readOf edition 0 word ≡ recorded.Given r
+unfolding writtenOf
+written-reads edition r word w =
+    let c = chosen (inRange r) (worded.Given (wordOf r)) (worded.Refused OutOfRange) (worded.Given word) (not-word OutOfRange word) w in
     let same : wordOf r ≡ word = cc in
-    rw (← same, eq-eqb (flagOf (wordOf r)) 0 (flag-zero r (bounds r (c .0))), fields-back r (bounds r (c .0)), c .0)
+    let b = bounds r (c .0) in
+    rw (← same, read-fields edition 0 (wordOf r) refl (not-filler edition r b) (flag-zero r b), fields-back r b, c .0)
 
 -- whatever reads as a record is the word that the writer writes for it
-pub read-writes : (code word : ℕ) (r : Record) → word < 2 ^ 32 → readOf code word ≡ recorded.Given r → writtenOf r ≡ worded.Given word
+pub read-writes : (edition : Edition) (code word : ℕ) (r : Record) → word < 2 ^ 32 → readOf edition code word ≡ recorded.Given r → writtenOf r ≡ worded.Given word
 unfolding writtenOf readOf
-read-writes code word r h e =
+read-writes edition code word r h given =
     let refused = not-given NotARecord r in
-    let a = chosen (eqb code 0) _ _ _ refused e in
-    let b = chosen (eqb (flagOf word) 0) _ _ _ refused (a .1) in
-    let c = chosen (inRange (fieldsOf word)) _ _ _ (not-given OutOfRange r) (b .1) in
+    let a = chosen (eqb code 0) _ _ _ refused given in
+    let b = passed (isFiller edition word) _ _ _ refused (a .1) in
+    let c = chosen (eqb (flagOf word) 0 && inRange (fieldsOf word)) _ _ _ (not-given OutOfRange r) b in
     let same : fieldsOf word ≡ r = cc in
-    let flag : flagOf word ≡ 0 = eqb-true _ 0 (b .0) in
-    rw (← same, c .0, word-back word (omega arith))
+    let in-both = and-eq-true-iff (eqb (flagOf word) 0) (inRange (fieldsOf word)) .0 (c .0) in
+    let flag : flagOf word ≡ 0 = eqb-true _ 0 (in-both .0) in
+    rw (← same, in-both .1, word-back word (omega arith))

@@ -30,5 +30,10 @@ pub chosen : {A : Type 0} (t : Bool) (x y z : A) → (y ≡ z → ⊥) → cond 
 chosen true x y z n e = (refl, e)
 chosen false x y z n e = absurd (n e)
 
+-- and one that does not come out as its first came out as its second
+pub passed : {A : Type 0} (t : Bool) (x y z : A) → (x ≡ z → ⊥) → cond t x y ≡ z → y ≡ z
+passed true x y z n e = absurd (n e)
+passed false x y z n e = e
+
 pub not-given : (why : Refusal) (r : Record) → Refused why ≡ Given r → ⊥
 not-given why r e = let z : _≡_ {A = ℕ} 0 1 = cc in omega arith

@@ -10,7 +10,7 @@ use Rattle.record.specs.declared.Record.{Record}
 abbrev pub field : ℕ → ℕ → ℕ → ℕ
 field word below wide = word / 2 ^ below % 2 ^ wide
 
--- the first message bit: 0 in a time block, 1 in a filler
+-- the first message bit: 0 in a time block
 abbrev pub flagOf : ℕ → ℕ
 flagOf word = field word 31 1
 

@@ -1,17 +1,31 @@
-// The 32-bit word of a time record, read and written (document 01, "The time record").
+// The 32-bit word of a time record, read and written (document 01, "The time record"), under either edition of the
+// specification (document 02, No. 3).
 ghost use mathlib.Core.Path.{_≡_};
 ghost use mathlib.Core.Bool.{true};
 ghost use Prim.Native.Nat.{_<_};
+ghost use Rattle.record.specs.Editions.{editionOf, isFiller};
 ghost use Rattle.record.specs.Fields.{offsetOf, sixOf, fieldsOf, wordOf};
 ghost use Rattle.record.specs.Given.{zeroRecord};
 ghost use Rattle.record.specs.Ranges.{within, offsetInRange, timeInRange, kindInRange, dayInRange, inRange};
 ghost use Rattle.record.specs.Words.{readOf, writtenOf};
 use refusal::Refusal;
 
+// The specification that a sender follows.
+pub enum Edition {
+    Of1984,
+    Of1982,
+}
+
+// The edition that a number names, or why there is none.
+pub enum Named {
+    Given(Edition),
+    Refused(Refusal),
+}
+
 // A minute in UTC as it is sent: the kind of its year, its week and weekday, its time.
 #[repr(C)]
 pub struct Record {
-    // 0: this year is leap, 1: last year was, 3: next year is, 2: two or more years away.
+    // How near a leap year is, by the edition's code.
     pub leap: u8,
     // The weekday of 8 January, so also of 1 January.
     pub start_day: u8,
@@ -51,16 +65,32 @@ pub fn zeros() -> Record
     }
 }
 
+// The edition of 1984 or of 1982.
+pub fn edition_of(number: u16) -> Named
+    ensures { λ r. ⌜ r ≡ editionOf number ⌝ }
+{
+    if number == 1984 {
+        return Named::Given(Edition::Of1984);
+    }
+    if number == 1982 {
+        return Named::Given(Edition::Of1982);
+    }
+    Named::Refused(Refusal::OutOfRange)
+}
+
 // The record in the word of a block with this code.
-pub fn read_record(code: u8, word: u32) -> Recorded
-    ensures { λ r. ⌜ r ≡ readOf code word ⌝ }
+pub fn read_record(edition: Edition, code: u8, word: u32) -> Recorded
+    ensures { λ r. ⌜ r ≡ readOf edition code word ⌝ }
 {
     if code != 0 {
         return Recorded::Refused(Refusal::NotARecord);
     }
-    // A set first bit marks a filler.
-    if word / 2147483648 % 2 != 0 {
+    if is_filler(edition, word) {
         return Recorded::Refused(Refusal::NotARecord);
+    }
+    // In 1982 a word with its first bit set is no filler, and no record either.
+    if word / 2147483648 % 2 != 0 {
+        return Recorded::Refused(Refusal::OutOfRange);
     }
     let record = fields(word);
     if in_range(record) {
@@ -70,7 +100,17 @@ pub fn read_record(code: u8, word: u32) -> Recorded
     }
 }
 
-// The word that carries the record.
+// In 1984 a set first bit marks a filler, in 1982 six zeros behind the code.
+fn is_filler(edition: Edition, word: u32) -> bool
+    ensures { λ r. ⌜ r ≡ isFiller edition word ⌝ }
+{
+    match edition {
+        Edition::Of1984 => word / 2147483648 % 2 == 1,
+        Edition::Of1982 => word / 67108864 % 64 == 0,
+    }
+}
+
+// The word that carries the record, the same in both editions.
 pub fn write_record(record: Record) -> Worded
     ensures { λ r. ⌜ r ≡ writtenOf «record» ⌝ }
 {

@@ -14,7 +14,7 @@ pub enum Refusal {
     WrongCheckWord,
     // The code is not 0, or the word is a filler.
     NotARecord,
-    // A field or a code is out of range, or there is no such month or day.
+    // A field or a code is out of range, or there is no such month, day or edition.
     OutOfRange,
     // Week 53 in a year without one.
     NotInYear,

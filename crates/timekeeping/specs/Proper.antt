@@ -4,6 +4,7 @@
 use mathlib.Core.Bool.{Bool, true, false, cond, _&&_}
 use lib.Dec.{eqb, leb, ltb}
 use lib.IntN.{ℤ, pos, negsuc}
+use Rattle.record.specs.declared.Edition.{Edition}
 use Rattle.record.specs.declared.Record.{Record}
 use Rattle.record.specs.declared.Recorded.{Recorded}
 use Rattle.record.specs.declared.Recorded.the-variants.{Given, Refused}
@@ -28,5 +29,5 @@ isGiven (Given r) = true
 isGiven (Refused why) = false
 
 -- time is none, or holds a usable record at an age of 0 to 119
-unfoldable pub timeProper : Time → Bool
-timeProper t = cond (eqb (t .kind) none) (isNoTime t) (leb (t .kind) confirmed && (ltb (t .age) 120 && isGiven (usableOf (t .held))))
+unfoldable pub timeProper : Edition → Time → Bool
+timeProper edition t = cond (eqb (t .kind) none) (isNoTime t) (leb (t .kind) confirmed && (ltb (t .age) 120 && isGiven (usableOf edition (t .held))))

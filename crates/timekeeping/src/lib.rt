@@ -6,6 +6,7 @@ ghost use Rattle.calendar.specs.MinutesLater.{thenNext, minutesLater};
 ghost use Rattle.timekeeping.specs.Proper.{isZeroRecord, isNoTime, isGiven, timeProper};
 ghost use Rattle.timekeeping.specs.Times.{timeOf, noTime, usableIn, sameMinute, follows, confirms, renewedBy, agedBy, offeredTo};
 use block::Read;
+use record::Edition;
 use record::Record;
 use record::Recorded;
 
@@ -39,12 +40,12 @@ pub fn no_time() -> Time
 }
 
 // The record of a usable time block.
-fn usable_in(read: Read) -> Recorded
-    ensures { λ r. ⌜ r ≡ usableIn read ⌝ }
+fn usable_in(edition: Edition, read: Read) -> Recorded
+    ensures { λ r. ⌜ r ≡ usableIn edition read ⌝ }
 {
     match read {
-        Read::Block { code, word } => match record::read_record(code, word) {
-            Recorded::Given(r) => calendar::usable(r),
+        Read::Block { code, word } => match record::read_record(edition, code, word) {
+            Recorded::Given(r) => calendar::usable(edition, r),
             Recorded::Refused(why) => Recorded::Refused(why),
         },
         Read::Refused {
@@ -77,44 +78,44 @@ fn same_minute(n: Record, r: Record) -> bool
 }
 
 // The next minute of the record that was given; a refusal stays.
-fn then_next(given: Recorded) -> Recorded
-    ensures { λ r. ⌜ r ≡ thenNext given ⌝ }
+fn then_next(edition: Edition, given: Recorded) -> Recorded
+    ensures { λ r. ⌜ r ≡ thenNext edition given ⌝ }
 {
     match given {
-        Recorded::Given(r) => calendar::next_minute(r),
+        Recorded::Given(r) => calendar::next_minute(edition, r),
         Recorded::Refused(why) => Recorded::Refused(why),
     }
 }
 
 // So many minutes later, one or more: the next minute taken that often.
-fn minutes_later(minutes: u8, held: Record) -> Recorded
+fn minutes_later(edition: Edition, minutes: u8, held: Record) -> Recorded
     requires { ⌜ 1 ≤ minutes ⌝ }
-    ensures { λ r. ⌜ r ≡ minutesLater minutes held ⌝ }
+    ensures { λ r. ⌜ r ≡ minutesLater edition minutes held ⌝ }
 {
     // Called from two places the next minute is not copied into the receiver's loop, which would cost every bit.
-    let mut later = calendar::next_minute(held);
+    let mut later = calendar::next_minute(edition, held);
     let mut taken: u8 = 1;
     while taken < minutes {
-        later = then_next(later);
+        later = then_next(edition, later);
         taken += 1;
     }
     later
 }
 
 // The record's minute is so many minutes after the held record's.
-fn comes_later(minutes: u8, held: Record, r: Record) -> bool
+fn comes_later(edition: Edition, minutes: u8, held: Record, r: Record) -> bool
     requires { ⌜ 1 ≤ minutes ⌝ }
-    ensures { λ t. ⌜ t ≡ follows minutes held r ⌝ }
+    ensures { λ t. ⌜ t ≡ follows edition minutes held r ⌝ }
 {
-    match minutes_later(minutes, held) {
+    match minutes_later(edition, minutes, held) {
         Recorded::Given(n) => same_minute(n, r),
         Recorded::Refused(_) => false,
     }
 }
 
 // Offered one to four whole minutes after the held record, the record tells as many minutes more.
-fn confirms(age: u8, held: Record, r: Record) -> bool
-    ensures { λ t. ⌜ t ≡ confirms (age + 1) held r ⌝ }
+fn confirms(edition: Edition, age: u8, held: Record, r: Record) -> bool
+    ensures { λ t. ⌜ t ≡ confirms edition (age + 1) held r ⌝ }
 {
     if 119 < age {
         return false;
@@ -122,18 +123,18 @@ fn confirms(age: u8, held: Record, r: Record) -> bool
     let offered = age + 1;
     let minutes = offered / 30;
     if offered % 30 == 0 {
-        comes_later(minutes, held, r)
+        comes_later(edition, minutes, held, r)
     } else {
         false
     }
 }
 
 // A usable record is offered: it is confirmed or a candidate, and its age is 0.
-fn renewed(time: Time, r: Record) -> Time
-    ensures { λ t. ⌜ t ≡ renewedBy time r ⌝ }
+fn renewed(edition: Edition, time: Time, r: Record) -> Time
+    ensures { λ t. ⌜ t ≡ renewedBy edition time r ⌝ }
 {
     if time.kind != 0 {
-        if confirms(time.age, time.held, r) {
+        if confirms(edition, time.age, time.held, r) {
             return time_of(2, r, 0);
         }
     }
@@ -156,11 +157,11 @@ fn aged(time: Time) -> Time
 }
 
 // A block is offered to the time, good or bad.
-pub fn offered_to(time: Time, read: Read) -> Time
-    ensures { λ t. ⌜ t ≡ offeredTo time (usableIn read) ⌝ }
+pub fn offered_to(edition: Edition, time: Time, read: Read) -> Time
+    ensures { λ t. ⌜ t ≡ offeredTo edition time (usableIn edition read) ⌝ }
 {
-    match usable_in(read) {
-        Recorded::Given(r) => renewed(time, r),
+    match usable_in(edition, read) {
+        Recorded::Given(r) => renewed(edition, time, r),
         Recorded::Refused(_) => aged(time),
     }
 }
@@ -192,17 +193,17 @@ pub fn is_no_time(time: Time) -> bool
     is_zero_record(time.held)
 }
 
-fn is_usable(r: Record) -> bool
-    ensures { λ t. ⌜ t ≡ isGiven (usableOf r) ⌝ }
+fn is_usable(edition: Edition, r: Record) -> bool
+    ensures { λ t. ⌜ t ≡ isGiven (usableOf edition r) ⌝ }
 {
-    match calendar::usable(r) {
+    match calendar::usable(edition, r) {
         Recorded::Given(_) => true,
         Recorded::Refused(_) => false,
     }
 }
 
-pub fn is_proper(time: Time) -> bool
-    ensures { λ t. ⌜ t ≡ timeProper time ⌝ }
+pub fn is_proper(edition: Edition, time: Time) -> bool
+    ensures { λ t. ⌜ t ≡ timeProper edition time ⌝ }
 {
     if time.kind == 0 {
         return is_no_time(time);
@@ -211,7 +212,7 @@ pub fn is_proper(time: Time) -> bool
         return false;
     }
     if time.age < 120 {
-        is_usable(time.held)
+        is_usable(edition, time.held)
     } else {
         false
     }

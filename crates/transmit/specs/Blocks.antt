@@ -8,7 +8,9 @@ use lib.Bits.{bitXor}
 use lib.Dec.{eqb, ltb}
 use lib.ListN.{getD, set}
 use Rattle.block.specs.Block.{blockOf}
+use Rattle.record.specs.Editions.{filler}
 use Rattle.record.specs.Words.{writtenOf}
+use Rattle.record.specs.declared.Edition.{Edition}
 use Rattle.record.specs.declared.Record.{Record}
 use Rattle.record.specs.declared.Worded.{Worded}
 use Rattle.record.specs.declared.Worded.the-variants as worded
@@ -17,18 +19,14 @@ use Rattle.transmit.specs.declared.blocks.Left.{Left}
 use Rattle.transmit.specs.declared.Sent.{Sent}
 use Rattle.transmit.specs.declared.Sent.the-variants as sent
 
--- a filler: the first message bit alone set
-abbrev pub filler : ℕ
-filler = 2 ^ 31
-
-wordIn : Worded → ℕ
-wordIn (worded.Given word) = word
-wordIn (worded.Refused why) = filler
+wordIn : Edition → Worded → ℕ
+wordIn edition (worded.Given word) = word
+wordIn edition (worded.Refused why) = filler edition
 
 -- the word of a record; a filler where it cannot be written
-unfoldable pub wordSent : Record → ℕ
+unfoldable pub wordSent : Edition → Record → ℕ
 unfolding writtenOf wordIn
-wordSent r = wordIn (writtenOf r)
+wordSent edition r = wordIn edition (writtenOf r)
 
 -- the next block is damaged where a number drawn below the blocks that are left is below those still to be damaged
 unfoldable pub isDamaged : Left → Bool

@@ -1,14 +1,14 @@
 // A block as it is sent, on demand with one bit exchanged, and what is left to send after it.
 use crate::chance::drawn;
 use crate::chance::stepped;
+use record::Edition;
 use record::Record;
 use record::Worded;
 ghost use mathlib.Core.List.{map};
 ghost use mathlib.Core.Path.{_≡_};
 ghost use Prim.Native.Nat.{_-_};
+ghost use Rattle.record.specs.Editions.{filler};
 ghost use Rattle.transmit.specs.Blocks.{wordSent, isDamaged, placeOf, afterOf, exchangedAt, characterOf, blockSent};
-
-pub const FILLER: u32 = 0x8000_0000;
 
 // What is left to send: blocks, how many of them to damage, and where chance stands.
 pub struct Left {
@@ -17,12 +17,21 @@ pub struct Left {
     pub chance: u64,
 }
 
-pub fn word_of(record: Record) -> u32
-    ensures { λ r. ⌜ r ≡ wordSent «record» ⌝ }
+pub fn filler(edition: Edition) -> u32
+    ensures { λ r. ⌜ r ≡ filler edition ⌝ }
+{
+    match edition {
+        Edition::Of1984 => 0x8000_0000,
+        Edition::Of1982 => 0,
+    }
+}
+
+pub fn word_of(edition: Edition, record: Record) -> u32
+    ensures { λ r. ⌜ r ≡ wordSent edition «record» ⌝ }
 {
     match record::write_record(record) {
         Worded::Given(word) => word,
-        Worded::Refused(_) => FILLER,
+        Worded::Refused(_) => filler(edition),
     }
 }
 

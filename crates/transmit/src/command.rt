@@ -1,4 +1,4 @@
-// The arguments: DATE TIME OFFSET MINUTES [DAMAGED [SEED]]. The first that is wrong is named, with what was expected.
+// The arguments: DATE TIME OFFSET MINUTES [DAMAGED [SEED [EDITION]]]. The first that is wrong is named, with what was expected.
 use crate::Asked;
 use arguments::Day;
 use arguments::Number;
@@ -9,7 +9,8 @@ use arguments::number_of;
 use arguments::offset_of;
 use arguments::time_of;
 use calendar::Date;
-use record::Record;
+use record::Edition;
+use record::Named;
 use record::Recorded;
 
 fn complain(text: &[u8]) -> Asked {
@@ -53,8 +54,8 @@ fn number_or(i: usize, count: usize, otherwise: u32) -> Number {
     }
 }
 
-// How many minutes; 0 where the number is none or out of range.
-fn minutes_of(number: Number) -> u16 {
+// A number of minutes or of an edition; 0, which neither can be, where it is none or out of range.
+fn short_of(number: Number) -> u16 {
     match number {
         Number::Of(n) => {
             if 65535 < n {
@@ -81,7 +82,7 @@ fn damaged_in(i: usize, count: usize, minutes: u16) -> Number {
 
 fn wrong_count() -> Asked {
     complain(
-        b"expected DATE TIME OFFSET MINUTES [DAMAGED [SEED]], as in: transmit 1986-01-01 12:34 2 5",
+        b"expected DATE TIME OFFSET MINUTES [DAMAGED [SEED [EDITION]]], as in: transmit 1986-01-01 12:34 2 5",
     )
 }
 
@@ -109,9 +110,13 @@ fn wrong_seed() -> Asked {
     complain(b"SEED: expected a number from 0 to 9999999")
 }
 
-// How long the feed is, and how much of it is damaged.
-fn feed_from(record: Record, count: usize) -> Asked {
-    let minutes = minutes_of(number_in(4));
+fn wrong_edition() -> Asked {
+    complain(b"EDITION: expected 1984 or 1982")
+}
+
+// How long the feed is, how much of it is damaged, and in which edition it is sent.
+fn feed_from(date: Date, count: usize) -> Asked {
+    let minutes = short_of(number_in(4));
     if minutes == 0 {
         return wrong_minutes();
     }
@@ -121,7 +126,14 @@ fn feed_from(record: Record, count: usize) -> Asked {
     let Number::Of(seed) = number_or(6, count, 1) else {
         return wrong_seed();
     };
+    let Named::Given(edition) = record::edition_of(short_of(number_or(7, count, 1984))) else {
+        return wrong_edition();
+    };
+    let Recorded::Given(record) = calendar::record_of_date(edition, date) else {
+        return wrong_date();
+    };
     Asked::Feed {
+        edition,
         record,
         minutes,
         damaged,
@@ -129,11 +141,7 @@ fn feed_from(record: Record, count: usize) -> Asked {
     }
 }
 
-// The record of a moment; a text that says none is a date that no record has.
-fn record_of(day: Day, time: Time, offset: Offset) -> Recorded {
-    calendar::record_of_date(date_of(day, time, offset))
-}
-
+// A text that says no moment is a date that no record has.
 fn date_of(day: Day, time: Time, offset: Offset) -> Date {
     let Day::Of { year, month, day } = day else {
         return Date::zeros();
@@ -147,8 +155,9 @@ fn date_of(day: Day, time: Time, offset: Offset) -> Date {
     Date::new(year, month, day, hour, minute, half_hours)
 }
 
-fn has_record(day: Day, time: Time) -> bool {
-    match record_of(day, time, Offset::Of(0)) {
+// The same dates have records in both editions.
+fn has_record(date: Date) -> bool {
+    match calendar::record_of_date(Edition::Of1984, date) {
         Recorded::Given(_) => true,
         Recorded::Refused(_) => false,
     }
@@ -156,17 +165,20 @@ fn has_record(day: Day, time: Time) -> bool {
 
 fn feed_in(count: usize) -> Asked {
     let day = day_in(1);
-    if !has_record(day, Time::Of { hour: 0, minute: 0 }) {
+    let midnight = Time::Of { hour: 0, minute: 0 };
+    if !has_record(date_of(day, midnight, Offset::Of(0))) {
         return wrong_date();
     }
     let time = time_in(2);
-    if !has_record(day, time) {
+    if !has_record(date_of(day, time, Offset::Of(0))) {
         return wrong_time();
     }
-    let Recorded::Given(record) = record_of(day, time, offset_in(3)) else {
-        return wrong_offset();
-    };
-    feed_from(record, count)
+    let date = date_of(day, time, offset_in(3));
+    if has_record(date) {
+        feed_from(date, count)
+    } else {
+        wrong_offset()
+    }
 }
 
 pub fn asked() -> Asked {
@@ -174,7 +186,7 @@ pub fn asked() -> Asked {
     if count < 5 {
         return wrong_count();
     }
-    if 7 < count {
+    if 8 < count {
         return wrong_count();
     }
     feed_in(count)

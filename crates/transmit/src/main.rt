@@ -6,18 +6,20 @@ mod command;
 ghost use Prim.Native.Nat.{ℕ};
 ghost use Rattle.transmit.specs.Blocks.{Follows};
 ghost use Rattle.transmit.specs.declared.blocks.Left.{Left};
-use blocks::FILLER;
 use blocks::Left;
 use blocks::after;
 use blocks::block_sent;
+use blocks::filler;
 use blocks::word_of;
 use command::asked;
+use record::Edition;
 use record::Record;
 use record::Recorded;
 
-// What is asked for: the first minute's record, and how many minutes and damaged blocks.
+// What is asked for: the edition, the first minute's record, and how many minutes and damaged blocks.
 pub enum Asked {
     Feed {
+        edition: Edition,
         record: Record,
         minutes: u16,
         damaged: u32,
@@ -51,13 +53,14 @@ fn send_block(left: Left, word: u32) -> Sent
     Sent::Failed
 }
 
-fn send_fillers(start: Left) -> Sent
+fn send_fillers(edition: Edition, start: Left) -> Sent
     ensures { λ r. ⌜ Follows 29 start r ⌝ }
 {
+    let word = filler(edition);
     let mut left = start;
     let mut i: u32 = 0;
     while i < 29 {
-        let Sent::On(next) = send_block(left, FILLER) else {
+        let Sent::On(next) = send_block(left, word) else {
             return Sent::Failed;
         };
         left = next;
@@ -82,28 +85,28 @@ fn end_line(sent: Sent) -> Sent
 }
 
 // Twenty-nine fillers, the time block, and the end of the line.
-fn send_minute(start: Left, record: Record) -> Sent
+fn send_minute(edition: Edition, start: Left, record: Record) -> Sent
     ensures { λ r. ⌜ Follows 30 start r ⌝ }
 {
-    let Sent::On(left) = send_fillers(start) else {
+    let Sent::On(left) = send_fillers(edition, start) else {
         return Sent::Failed;
     };
-    end_line(send_block(left, word_of(record)))
+    end_line(send_block(left, word_of(edition, record)))
 }
 
 // Minute after minute, as long as standard output takes it.
-fn send(first: Record, minutes: u16, start: Left) {
+fn send(edition: Edition, first: Record, minutes: u16, start: Left) {
     let mut record = first;
     let mut left = start;
     let mut k = minutes;
     while 0 < k {
-        let Sent::On(then) = send_minute(left, record) else {
+        let Sent::On(then) = send_minute(edition, left, record) else {
             return;
         };
         left = then;
         k -= 1;
         // The record of a date always has a next minute.
-        let Recorded::Given(next) = calendar::next_minute(record) else {
+        let Recorded::Given(next) = calendar::next_minute(edition, record) else {
             return;
         };
         record = next;
@@ -113,6 +116,7 @@ fn send(first: Record, minutes: u16, start: Left) {
 fn main() {
     match asked() {
         Asked::Feed {
+            edition,
             record,
             minutes,
             damaged,
@@ -123,7 +127,7 @@ fn main() {
                 damaged,
                 chance: chance::from(seed),
             };
-            send(record, minutes, left);
+            send(edition, record, minutes, left);
         }
         Asked::Nothing => {}
     }

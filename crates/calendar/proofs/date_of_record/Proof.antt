@@ -22,7 +22,7 @@ in-span-requires c κs =
     let arm = c .before in
     let first = arm .before .before .before in
     let year = between 1901 _ 2072 (sym (first .before .may-be-first .ensures) ∙ first .if1 .taken) in
-    (year .0, year .1, usable-is _ (usable-given _ _ (sym (arm .before .before .usable .ensures) ∙ arm .r .given .1) .1))
+    (year .0, year .1, usable-is _ _ (usable-given _ _ _ (sym (arm .before .before .usable .ensures) ∙ arm .r .given .1) .1))
 
 enum-known-why : tie.Need-enum-known-why
 enum-known-why c = search needs

@@ -16,7 +16,7 @@ enum-known-r c = search needs
 go-on-requires : tie.Need-go-on-requires
 go-on-requires c κs =
     let arm = c .before in
-    usable-given _ _ (sym (arm .before .before .usable .ensures) ∙ arm .r .given .1) .1 .in-range
+    usable-given _ _ _ (sym (arm .before .before .usable .ensures) ∙ arm .r .given .1) .1 .in-range
 
 enum-known-why : tie.Need-enum-known-why
 enum-known-why c = search needs

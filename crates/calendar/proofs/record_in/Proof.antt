@@ -39,8 +39,8 @@ sub-since c =
     let p = c .before .pre in
     omega (arith, c .week-one .ensures, in-weeks _ _ _ (in-calendar _ _ (p .0) (p .1) (p .2) (p .3)) (p .3) (p .4))
 
-cast-t7 : tie.Need-cast-t7
-cast-t7 c = search needs
+leap-code-requires : tie.Need-leap-code-requires
+leap-code-requires c κs = search needs
 
 start-day-of-requires : tie.Need-start-day-of-requires
 start-day-of-requires c κs = search needs
@@ -50,8 +50,9 @@ add-t9 c = search needs
 
 cast-t10 : tie.Need-cast-t10
 cast-t10 c =
-    let p = c .before .before .pre in
-    omega (arith, c .before .week-one .ensures, in-weeks _ _ _ (in-calendar _ _ (p .0) (p .1) (p .2) (p .3)) (p .3) (p .4))
+    let begin = c .before .before in
+    let p = begin .before .pre in
+    omega (arith, begin .week-one .ensures, in-weeks _ _ _ (in-calendar _ _ (p .0) (p .1) (p .2) (p .3)) (p .3) (p .4))
 
 add-t12 : tie.Need-add-t12
 add-t12 c = search needs
@@ -62,10 +63,11 @@ cast-t13 c = search needs
 returns : tie.Need-returns
 unfolding recordAt
 returns c =
-    let start = c .before .before .before in
+    let code = c .before .before in
+    let start = code .before .before in
     let p = start .pre in
-    record-is (start .args .date) (in-calendar _ _ (p .0) (p .1) (p .2) (p .3))
-    ∙ rw (c .before .start-day-of .ensures, c .before .before .week-one .ensures, p .4, p .3, back (c .struct-told .given .1 .1 .1 .1 .1 .0 .1))
+    record-is (start .args .edition) (start .args .date) (in-calendar _ _ (p .0) (p .1) (p .2) (p .3))
+    ∙ rw (c .before .start-day-of .ensures, code .leap-code .ensures, code .before .week-one .ensures, p .4, p .3, back (c .struct-told .given .1 .1 .1 .1 .1 .0 .1))
 
 pub record-in-spec : {M : Type 1} → statement M
 record-in-spec =
@@ -73,7 +75,7 @@ record-in-spec =
     (tie.spec
     week-one-requires
     sub-since
-    cast-t7
+    leap-code-requires
     start-day-of-requires
     add-t9
     cast-t10

@@ -11,6 +11,9 @@ use Rattle.calendar.proofs.usable.Tie as tie
 in-range-requires : tie.Need-in-range-requires
 in-range-requires c κs = search needs
 
+says-leap-requires : tie.Need-says-leap-requires
+says-leap-requires c κs = search needs
+
 weeks-of-requires : tie.Need-weeks-of-requires
 weeks-of-requires c κs =
     let fields = c .before in
@@ -21,14 +24,14 @@ unfolding usableOf
 returns c =
     let weeks = c .before .before in
     let fields = weeks .before .before in
-    rw (← fields .before .in-range .ensures, fields .if1 .taken, ← weeks .weeks-of .ensures, le-leb _ _ (c .if2 .taken))
+    rw (← fields .before .in-range .ensures, fields .if1 .taken, ← weeks .before .says-leap .ensures, ← weeks .weeks-of .ensures, le-leb _ _ (c .if2 .taken))
 
 returns-2 : tie.Need-returns-2
 unfolding usableOf
 returns-2 c =
     let weeks = c .before .before in
     let fields = weeks .before .before in
-    rw (← fields .before .in-range .ensures, fields .if1 .taken, ← weeks .weeks-of .ensures, lt-leb _ _ (c .if2 .left))
+    rw (← fields .before .in-range .ensures, fields .if1 .taken, ← weeks .before .says-leap .ensures, ← weeks .weeks-of .ensures, lt-leb _ _ (c .if2 .left))
 
 returns-3 : tie.Need-returns-3
 unfolding usableOf
@@ -36,4 +39,4 @@ returns-3 c = rw (← c .before .in-range .ensures, c .if1 .left)
 
 pub usable-spec : {M : Type 1} → statement M
 usable-spec =
-    tie.close (tie.spec in-range-requires weeks-of-requires returns returns-2 returns-3)
+    tie.close (tie.spec in-range-requires says-leap-requires weeks-of-requires returns returns-2 returns-3)

@@ -1,40 +1,22 @@
--- `lw_date_of_record` meets its contract: the flat answer of each case.
+-- `lw_date_of_record` meets its contract: the flat form of what the callee answers in the edition, or of why there is none.
 -- Assumes nothing.
 use borrow.Author.Needs.{needs}
+use mathlib.Core.Path.{ap, _∙_}
+use Rattle.face_time.specs.Face.{dateFace}
 use Rattle.face_time.proofs.lw_date_of_record.Statement.{statement}
 use Rattle.face_time.proofs.lw_date_of_record.Tie as tie
 
-date-of-record-requires : tie.Need-date-of-record-requires
-date-of-record-requires c κs = search needs
-
-enum-known-given : tie.Need-enum-known-given
-enum-known-given c = search needs
-
-enum-known-refusal : tie.Need-enum-known-refusal
-enum-known-refusal c = search needs
-
-number-requires : tie.Need-number-requires
-number-requires c κs = search needs
-
-zeros-requires : tie.Need-zeros-requires
-zeros-requires c κs = search needs
-
 returns : tie.Need-returns
-returns c = rw (← c .before .before .before .date-of-record .ensures, c .before .given .given .1)
+returns c =
+    let named = c .before .before .before in
+    rw (← named .before .before .edition-of .ensures, named .edition .given .1) (c .date-answer .ensures ∙ ap dateFace (c .before .date-of-record .ensures))
 
 returns-2 : tie.Need-returns-2
 returns-2 c =
-    let refused = c .before .before .before in
-    rw (← refused .before .before .date-of-record .ensures, refused .refusal .given .1, c .before .number .ensures, c .zeros .ensures)
+    let refused = c .before .before in
+    rw (← refused .before .before .edition-of .ensures, refused .why .given .1) (c .date-answer2 .ensures)
 
 pub lw-date-of-record-spec : {M : Type 1} → statement M
 lw-date-of-record-spec =
     tie.close
-    (tie.spec
-    date-of-record-requires
-    enum-known-given
-    enum-known-refusal
-    number-requires
-    zeros-requires
-    returns
-    returns-2)
+    (tie.spec (λ c κs. search needs) (λ c. search needs) (λ c κs. search needs) (λ c κs. search needs) (λ c. search needs) (λ c κs. search needs) returns returns-2)

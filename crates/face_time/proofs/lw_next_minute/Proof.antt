@@ -1,4 +1,4 @@
--- `lw_next_minute` meets its contract: the flat form of what the callee answers.
+-- `lw_next_minute` meets its contract: the flat form of what the callee answers in the edition, or of why there is none.
 -- Assumes nothing.
 use borrow.Author.Needs.{needs}
 use mathlib.Core.Path.{ap, _∙_}
@@ -6,5 +6,17 @@ use Rattle.face_time.specs.Face.{recordFace}
 use Rattle.face_time.proofs.lw_next_minute.Statement.{statement}
 use Rattle.face_time.proofs.lw_next_minute.Tie as tie
 
+returns : tie.Need-returns
+returns c =
+    let named = c .before .before .before in
+    rw (← named .before .before .edition-of .ensures, named .edition .given .1) (c .record-answer .ensures ∙ ap recordFace (c .before .next-minute .ensures))
+
+returns-2 : tie.Need-returns-2
+returns-2 c =
+    let refused = c .before .before in
+    rw (← refused .before .before .edition-of .ensures, refused .why .given .1) (c .record-answer2 .ensures)
+
 pub lw-next-minute-spec : {M : Type 1} → statement M
-lw-next-minute-spec = tie.close (tie.spec (λ c κs. search needs) (λ c κs. search needs) (λ c. c .record-answer .ensures ∙ ap recordFace (c .before .next-minute .ensures)))
+lw-next-minute-spec =
+    tie.close
+    (tie.spec (λ c κs. search needs) (λ c. search needs) (λ c κs. search needs) (λ c κs. search needs) (λ c. search needs) (λ c κs. search needs) returns returns-2)

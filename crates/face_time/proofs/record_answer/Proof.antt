@@ -4,18 +4,6 @@ use borrow.Author.Needs.{needs}
 use Rattle.face_time.proofs.record_answer.Statement.{statement}
 use Rattle.face_time.proofs.record_answer.Tie as tie
 
-enum-known-answer : tie.Need-enum-known-answer
-enum-known-answer c = search needs
-
-enum-known-answer-2 : tie.Need-enum-known-answer-2
-enum-known-answer-2 c = search needs
-
-number-requires : tie.Need-number-requires
-number-requires c κs = search needs
-
-zeros-requires : tie.Need-zeros-requires
-zeros-requires c κs = search needs
-
 returns : tie.Need-returns
 returns c = rw (c .before .answer .given .1)
 
@@ -24,11 +12,4 @@ returns-2 c = rw (c .before .before .before .answer2 .given .1, c .before .numbe
 
 pub record-answer-spec : {M : Type 1} → statement M
 record-answer-spec =
-    tie.close
-    (tie.spec
-    enum-known-answer
-    enum-known-answer-2
-    number-requires
-    zeros-requires
-    returns
-    returns-2)
+    tie.close (tie.spec (λ c. search needs) (λ c. search needs) (λ c κs. search needs) (λ c κs. search needs) returns returns-2)

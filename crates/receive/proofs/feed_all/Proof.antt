@@ -9,14 +9,14 @@ use native.Mathlib.Omega.{arith}
 use lib.ListN.{length, drop, length-drop, drop-of-length-le}
 use Rattle.block.proofs.Strings.{bits-drop, rest-whole}
 use Rattle.receiver.specs.Packed.{packedProper}
-use Rattle.receive.specs.Totals.{keptAfter}
+use Rattle.receive.specs.Totals.{edition, keptAfter}
 use Rattle.receive.proofs.Hearing.{turn-fed, turn-proper, turn-kept}
 use Rattle.receive.proofs.feed_all.Statement.{statement}
 use Rattle.receive.proofs.feed_all.Tie as tie
 
 abbrev Inv-loop : tie.InvT-loop
 Inv-loop bits more kept₀ sound₀ i₀ kept sound i =
-    (i ≤ length bits) × (packedProper (kept .state) ≡ true) × (keptAfter kept (drop i bits) ≡ keptAfter kept₀ bits)
+    (i ≤ length bits) × (packedProper edition (kept .state) ≡ true) × (keptAfter kept (drop i bits) ≡ keptAfter kept₀ bits)
 
 abbrev μ-loop : tie.MeasureT-loop
 μ-loop bits more kept₀ sound₀ i₀ kept sound i = length bits - i

@@ -6,12 +6,13 @@ use mathlib.Core.Path.{_≡_}
 use native.Mathlib.Omega.{arith}
 use Rattle.receiver.specs.Packed.{packedProper}
 use Rattle.receiver.proofs.Layouts.{fresh-packed-proper}
+use Rattle.receive.specs.Totals.{edition}
 use Rattle.receive.proofs.Hearing.{fed-proper}
 use Rattle.receive.proofs.main.Statement.{statement}
 use Rattle.receive.proofs.main.Tie as tie
 
 abbrev Inv-loop : tie.InvT-loop
-Inv-loop piece₀ turns₀ piece turns = packedProper (piece .kept .state) ≡ true
+Inv-loop piece₀ turns₀ piece turns = packedProper edition (piece .kept .state) ≡ true
 
 abbrev μ-loop : tie.MeasureT-loop
 μ-loop piece₀ turns₀ piece turns = turns
@@ -20,7 +21,7 @@ fresh-requires : tie.Need-fresh-requires Inv-loop μ-loop
 fresh-requires c κs = tt
 
 loop-holds : tie.Need-loop-holds Inv-loop μ-loop
-loop-holds c = rw (c .fresh .ensures) fresh-packed-proper
+loop-holds c = rw (c .fresh .ensures) (fresh-packed-proper edition)
 
 read-piece-requires : tie.Need-read-piece-requires Inv-loop μ-loop
 read-piece-requires c κs = c .before .before .before .before .loop .inv

@@ -25,7 +25,7 @@ use Rattle.receiver.specs.Windows.{Turned}
 use Rattle.receiver.proofs.Balance.{MadeUp}
 use Rattle.receiver.proofs.First.{fifty}
 use Rattle.receiver.proofs.StaysProper.{bits-and-lock}
-use Rattle.receiver.proofs.Layouts.{proper-unpacked}
+use Rattle.receiver.proofs.Layouts.{proper-small, proper-unpacked}
 use Rattle.receiver.proofs.Numbers.{placesOf}
 use Rattle.receiver.proofs.Running.{goesOn, went-on, stopped, on-done, on-stops}
 use Rattle.receiver.proofs.Turning.{entered, few, put-back, reads, is-over, not-over, goes-same, more-wait, goes-over, goes-on, ends-here}
@@ -43,13 +43,13 @@ abbrev number : Window → ℕ
 number w = w .bits
 
 abbrev Inv-loop : tie.InvT-loop
-Inv-loop bits stop lock₀ window₀ waited blocks₀ i₀ lock window blocks i =
-    (i ≤ length bits) × (window .waiting < 50) × Turned window × (lockProper lock ≡ true) × (waited + length bits ≤ 65585)
+Inv-loop edition bits stop lock₀ window₀ waited blocks₀ i₀ lock window blocks i =
+    (i ≤ length bits) × (window .waiting < 50) × Turned window × (lockProper edition lock ≡ true) × (waited + length bits ≤ 65585)
     × ((passed : ℕ) × MadeUp (waited + i) blocks passed (window .waiting)
-    × (goesOn stop (drop i bits) i blocks passed (held lock window) ≡ goesOn stop bits 0 noBlocks 0 (held lock₀ window₀)))
+    × (goesOn edition stop (drop i bits) i blocks passed (held lock window) ≡ goesOn edition stop bits 0 noBlocks 0 (held lock₀ window₀)))
 
 abbrev μ-loop : tie.MeasureT-loop
-μ-loop bits stop lock₀ window₀ waited blocks₀ i₀ lock window blocks i = length bits - i
+μ-loop edition bits stop lock₀ window₀ waited blocks₀ i₀ lock window blocks i = length bits - i
 
 -- the bits passed over are what is left of them
 passed-is : (n : ℕ) (blocks : Blocks) (passed w : ℕ) → MadeUp n blocks passed w → n - 50 * (blocks .good + blocks .bad) - w ≡ passed
@@ -59,7 +59,11 @@ lock-in-requires : tie.Need-lock-in-requires Inv-loop μ-loop
 lock-in-requires c κs = search needs
 
 window-in-requires : tie.Need-window-in-requires Inv-loop μ-loop
-window-in-requires c κs = c .before .before .pre .0
+window-in-requires c κs =
+    let start = c .before .before in
+    let p = start .args .state in
+    let proper = start .pre .0 in
+    (few (start .args .edition) p proper, proper-small (start .args .edition) p proper)
 
 no-blocks-requires : tie.Need-no-blocks-requires Inv-loop μ-loop
 no-blocks-requires c κs = search needs
@@ -72,10 +76,10 @@ loop-holds c =
     let p = start .args .state in
     let w = window .window-in .ensures in (
       omega arith,
-      omega (arith, w .0, few p (start .pre .0)),
+      omega (arith, w .0, few (start .args .edition) p (start .pre .0)),
       w .2,
-      rw (lock .lock-in .ensures) (bits-and-lock _ (proper-unpacked p (start .pre .0) .proper) .1),
-      omega (arith, w .0, few p (start .pre .0), start .pre .1),
+      rw (lock .lock-in .ensures) (bits-and-lock (start .args .edition) _ (proper-unpacked (start .args .edition) p (start .pre .0) .proper) .1),
+      omega (arith, w .0, few (start .args .edition) p (start .pre .0), start .pre .1),
       (0, rw (c .no-blocks .ensures) (omega arith), rw (c .no-blocks .ensures)),
     )
 
@@ -105,7 +109,7 @@ returns c =
     let whole = rw (next bits (at .loop .i) (c .before .before .before .before .before .loop-test .taken)) at (at .loop .inv .5 .2) in
     let no-bit : 2 ≤ getD bits (at .loop .i) 0 = omega (arith, c .before .before .before .if1 .taken) in
     rw (c .counted .ensures, c .before .kept .ensures, passed-is _ (at .loop .blocks) _ _ (at .loop .inv .5 .1), c .before .before .number .ensures, put-back (at .loop .lock) _ _ (at .loop .inv .2 .0))
-    (sym (on-stops stop (at .loop .i) _ _ _ _ _ no-bit) ∙ whole ∙ entered (start .args .state) (start .pre .0) (lock .lock-in .ensures) (w .0) (w .1) stop bits)
+    (sym (on-stops _ stop (at .loop .i) _ _ _ _ _ no-bit) ∙ whole ∙ entered (start .args .edition) (start .args .state) (start .pre .0) (lock .lock-in .ensures) (w .0) (w .1) stop bits)
 
 join-requires : tie.Need-join-requires Inv-loop μ-loop
 join-requires c κs = let inv = c .before .before .before .loop .inv in (inv .1, omega (arith, c .if1 .left), inv .2)
@@ -132,7 +136,7 @@ more-requires : tie.Need-more-requires Inv-loop μ-loop
 more-requires c κs =
     let judge = c .before in
     let inv = judge .before .before .before .before .before .before .before .before .before .before .before .loop .inv in
-    let one = counts-one _ _ (judge .judge .ensures) in
+    let one = counts-one _ _ _ (judge .judge .ensures) in
     (omega (arith, one, inv .0, inv .4, inv .5 .1), omega (arith, one, inv .0, inv .4, inv .5 .1))
 
 empty-requires : tie.Need-empty-requires Inv-loop μ-loop
@@ -158,7 +162,7 @@ counted-requires-2 c κs =
     let joined = full .before .before in
     let at = joined .before .before .before .before in
     let inv = at .loop .inv in (
-      rw (c .kept2 .ensures, end .before .before .before .more .ensures) (omega (arith, end .before .empty .ensures .0, counts-one _ _ (judge .judge .ensures), inv .5 .1, joined .join .ensures .0, full .if2 .taken)),
+      rw (c .kept2 .ensures, end .before .before .before .more .ensures) (omega (arith, end .before .empty .ensures .0, counts-one _ _ _ (judge .judge .ensures), inv .5 .1, joined .join .ensures .0, full .if2 .taken)),
       omega (arith, joined .before .before .before .loop-test .taken, inv .4),
     )
 
@@ -181,16 +185,16 @@ returns-2 c =
     let f = fifty v (full .if2 .taken) (grown .2) in
     let b : getD bits (at .loop .i) 0 < 2 = omega (arith, joined .before .if1 .left) in
     let j = judge .judge .result in
-    let e = judge .judge .ensures ∙ ap (judgedBy l) (judge .before .read-by .ensures ∙ reads (v .bits) _ (f .0) (over .before .behind-first .ensures)) in
-    let none = ap (λ (j : Judged). j .passed) e ∙ not-over l _ _ (over .is-passed-over .ensures) (judge .before .before .if3 .left) in
+    let e = judge .judge .ensures ∙ ap (judgedBy (start .args .edition) l) (judge .before .read-by .ensures ∙ reads (v .bits) _ (f .0) (over .before .behind-first .ensures)) in
+    let none = ap (λ (j : Judged). j .passed) e ∙ not-over _ l _ _ (over .is-passed-over .ensures) (judge .before .before .if3 .left) in
     let whole = rw (next bits (at .loop .i) (joined .before .before .before .loop-test .taken)) at (at .loop .inv .5 .2) in
     let change = stopped stop (sameLock (l .mode) (j .lock .mode)) (end .ends .result) (end .ends .ensures) (c .before .before .if4 .taken) in
     let nothing = end .before .empty .ensures in
     let made : MadeUp (at .before .before .window-in .result .waiting + (at .loop .i + 1)) (plus (at .loop .blocks) (j .blocks)) (at .loop .inv .5 .0) (end .before .empty .result .waiting) =
-    omega (arith, at .loop .inv .5 .1, grown .0, full .if2 .taken, counts-one _ _ (judge .judge .ensures), none, nothing .0) in
+    omega (arith, at .loop .inv .5 .1, grown .0, full .if2 .taken, counts-one _ _ _ (judge .judge .ensures), none, nothing .0) in
     rw (c .counted2 .ensures, c .before .kept2 .ensures, end .before .before .before .more .ensures, passed-is _ (plus (at .loop .blocks) (j .blocks)) _ _ made, put-back (j .lock) _ _ (nothing .2 .0), nothing .0, nothing .1)
-    (sym (ends-here stop (at .loop .i) _ _ _ _ b l _ _ (v .bits) (grown .1) (sym (grown .0) ∙ full .if2 .taken) j e none (change .0) (change .1))
-    ∙ whole ∙ entered (start .args .state) (start .pre .0) (lock .lock-in .ensures) (window .0) (window .1) stop bits)
+    (sym (ends-here _ stop (at .loop .i) _ _ _ _ b l _ _ (v .bits) (grown .1) (sym (grown .0) ∙ full .if2 .taken) j e none (change .0) (change .1))
+    ∙ whole ∙ entered (start .args .edition) (start .args .state) (start .pre .0) (lock .lock-in .ensures) (window .0) (window .1) stop bits)
 
 add-i : tie.Need-add-i Inv-loop μ-loop
 add-i c = omega arith
@@ -224,29 +228,29 @@ loop-again c =
       (
         inv .5 .0 + 1,
         rw (o .7) (omega (arith, inv .5 .1, ap waiting (o .6), moved .0, grown .0, o .0 .taken)),
-        goes-same stop _ _ _ (o .5) (ap waiting (o .6) ∙ moved .0) (ap number (o .6) ∙ moved .1) (o .7)
-            ∙ sym (goes-over stop (at .loop .i) _ _ _ _ b l _ _ (v .bits) (grown .1) (sym (grown .0) ∙ o .0 .taken) (passedOver l) (is-over l _ _ (o .2 .ensures) (inv .3) (o .3 .taken)) refl) ∙ whole,
+        goes-same _ stop _ _ _ (o .5) (ap waiting (o .6) ∙ moved .0) (ap number (o .6) ∙ moved .1) (o .7)
+            ∙ sym (goes-over _ stop (at .loop .i) _ _ _ _ b l _ _ (v .bits) (grown .1) (sym (grown .0) ∙ o .0 .taken) (passedOver l) (is-over _ l _ _ (o .2 .ensures) (inv .3) (o .3 .taken)) refl) ∙ whole,
       ),
     ))
     (⊎-elim
     (λ u.
     let f = fifty v (u .0 .taken) (grown .2) in
     let j = u .5 .result in
-    let e = u .5 .ensures ∙ ap (judgedBy l) (u .4 .ensures ∙ reads (v .bits) _ (f .0) (u .1 .ensures)) in
-    let none = ap (λ (j : Judged). j .passed) e ∙ not-over l _ _ (u .2 .ensures) (u .3 .left) in
+    let e = u .5 .ensures ∙ ap (judgedBy (start .args .edition) l) (u .4 .ensures ∙ reads (v .bits) _ (f .0) (u .1 .ensures)) in
+    let none = ap (λ (j : Judged). j .passed) e ∙ not-over _ l _ _ (u .2 .ensures) (u .3 .left) in
     let same = went-on stop (sameLock (l .mode) (j .lock .mode)) (u .10 .result) (u .10 .ensures) (u .11 .left) in
     let nothing = u .9 .ensures in
     let added = u .14 ∙ u .7 .ensures in (
       here,
       omega (arith, ap waiting (u .13), nothing .0),
       subst Turned (sym (u .13)) (nothing .2),
-      rw (u .12, e) (judged-proper l _ (inv .3)),
+      rw (u .12, e) (judged-proper _ l _ (inv .3)),
       inv .4,
       (
         inv .5 .0,
-        rw added (omega (arith, inv .5 .1, ap waiting (u .13), nothing .0, grown .0, u .0 .taken, counts-one _ _ (u .5 .ensures), none)),
-        goes-same stop _ _ _ (u .12) (ap waiting (u .13) ∙ nothing .0) (ap number (u .13) ∙ nothing .1) added
-            ∙ sym (goes-on stop (at .loop .i) _ _ _ _ b l _ _ (v .bits) (grown .1) (sym (grown .0) ∙ u .0 .taken) j e none same) ∙ whole,
+        rw added (omega (arith, inv .5 .1, ap waiting (u .13), nothing .0, grown .0, u .0 .taken, counts-one _ _ _ (u .5 .ensures), none)),
+        goes-same _ stop _ _ _ (u .12) (ap waiting (u .13) ∙ nothing .0) (ap number (u .13) ∙ nothing .1) added
+            ∙ sym (goes-on _ stop (at .loop .i) _ _ _ _ b l _ _ (v .bits) (grown .1) (sym (grown .0) ∙ u .0 .taken) j e none same) ∙ whole,
       ),
     ))
     (λ k. (
@@ -258,8 +262,8 @@ loop-again c =
       (
         inv .5 .0,
         rw (k .3) (omega (arith, inv .5 .1, ap waiting (k .2), grown .0)),
-        goes-same stop _ _ _ (k .1) (ap waiting (k .2) ∙ grown .0) (ap number (k .2)) (k .3)
-            ∙ sym (more-wait stop (at .loop .i) _ _ _ _ b l _ _ (v .bits) (grown .1) (omega (arith, grown .0, k .0 .left, inv .1))) ∙ whole,
+        goes-same _ stop _ _ _ (k .1) (ap waiting (k .2) ∙ grown .0) (ap number (k .2)) (k .3)
+            ∙ sym (more-wait _ stop (at .loop .i) _ _ _ _ b l _ _ (v .bits) (grown .1) (omega (arith, grown .0, k .0 .left, inv .1))) ∙ whole,
       ),
     )))
     (c .if2 .came)
@@ -282,7 +286,7 @@ returns-3 c =
     let window = at .before .before .window-in .ensures in
     let whole = rw (drop-of-length-le bits (c .before .before .loop-test .left)) at (at .loop .inv .5 .2) in
     rw (c .counted3 .ensures, c .before .kept3 .ensures, passed-is _ (at .loop .blocks) _ _ (at .loop .inv .5 .1), put-back (at .loop .lock) _ _ (at .loop .inv .2 .0))
-    (sym (on-done stop (at .loop .i) _ _ _) ∙ whole ∙ entered (start .args .state) (start .pre .0) (lock .lock-in .ensures) (window .0) (window .1) stop bits)
+    (sym (on-done _ stop (at .loop .i) _ _ _) ∙ whole ∙ entered (start .args .edition) (start .args .state) (start .pre .0) (lock .lock-in .ensures) (window .0) (window .1) stop bits)
 
 pub feed-all-spec : {M : Type 1} → statement M
 feed-all-spec =

@@ -34,7 +34,7 @@ returns-3 : tie.Need-returns-3
 returns-3 c =
     let start = c .before .before .before .before .before .args in
     let proper = sym (c .before .before .before .is-proper .ensures) ∙ not-false _ (c .before .if2 .left) in
-    c .feed-all .ensures ∙ sym (stretch-is (start .stop) (start .state) (start .bits .now) (ltb-false 65536 _ (c .before .before .if1 .left)) proper)
+    c .feed-all .ensures ∙ sym (stretch-is (start .edition) (start .stop) (start .state) (start .bits .now) (ltb-false 65536 _ (c .before .before .if1 .left)) proper)
 
 pub limited-spec : {M : Type 1} → statement M
 limited-spec =

@@ -34,7 +34,7 @@ unpack-requires c κs =
     let pack = number .before .before in
     let s = pack .before .before .before .before .args .state in
     let k = packs (s .bits) _ (sym (pack .pack .ensures) ∙ number .number .given .1) in
-    ran-small s _ k _ (packed .packed-with .ensures) _ _ (ran .run-packed .ensures)
+    ran-small _ s _ k _ (packed .packed-with .ensures) _ _ (ran .run-packed .ensures)
 
 enum-told : tie.Need-enum-told
 enum-told c = search needs
@@ -50,7 +50,7 @@ returns c =
     let pack = number .before .before in
     let s = pack .before .before .before .before .args .state in
     let k = packs (s .bits) _ (sym (pack .pack .ensures) ∙ number .number .given .1) in
-    ran-back s _ k _ (packed .packed-with .ensures) _ _ (ran .run-packed .ensures) _ (c .unpack .ensures)
+    ran-back _ s _ k _ (packed .packed-with .ensures) _ _ (ran .run-packed .ensures) _ (c .unpack .ensures)
 
 returns-2 : tie.Need-returns-2
 unfolding runOf
@@ -61,7 +61,7 @@ returns-2 c =
     let s = start .args .state in
     let bits = start .args .bits .now in
     let fifty : length (s .bits) ≡ 50 = sym (slice-aggregate-pack (pack .before)) in
-    let improper = not-proper s fifty _ (sym (pack .pack .ensures) ∙ told .enum-told .given .1) in
+    let improper = not-proper (start .args .edition) s fifty _ (sym (pack .pack .ensures) ∙ told .enum-told .given .1) in
     ⊎-elim (λ w. rw (c .refused .ensures, w .1, lt-ltb 65536 (length bits) (w .0 .taken))) (λ w. rw (c .refused .ensures, w .1, le-ltb 65536 (length bits) (w .0 .left), improper)) (c .before .if1 .came)
 
 pub run-spec : {M : Type 1} → statement M

@@ -11,7 +11,7 @@ limited-requires : tie.Need-limited-requires
 limited-requires c κs = search needs
 
 returns : tie.Need-returns
-returns c = ap (λ (r : Stretch). r .ran) (c .before .limited .ensures) ∙ all-run _ _
+returns c = ap (λ (r : Stretch). r .ran) (c .before .limited .ensures) ∙ all-run _ _ _
 
 pub run-packed-spec : {M : Type 1} → statement M
 run-packed-spec = tie.close (tie.spec limited-requires returns)

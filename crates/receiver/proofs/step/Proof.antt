@@ -13,7 +13,9 @@ run-requires : tie.Need-run-requires
 run-requires c κs = search needs
 
 returns : tie.Need-returns
-returns c = c .run .ensures ∙ sym (fed-run (c .before .before .args .state) (c .before .before .args .bit))
+returns c =
+    let given = c .before .before .args in
+    c .run .ensures ∙ sym (fed-run (given .edition) (given .state) (given .bit))
 
 pub step-spec : {M : Type 1} → statement M
 step-spec = tie.close (tie.spec slice-aggregate-run run-requires returns)

@@ -13,7 +13,9 @@ run-packed-requires : tie.Need-run-packed-requires
 run-packed-requires c κs = search needs
 
 returns : tie.Need-returns
-returns c = c .run-packed .ensures ∙ sym (fed-packed-run (c .before .before .args .state) (c .before .before .args .bit))
+returns c =
+    let given = c .before .before .args in
+    c .run-packed .ensures ∙ sym (fed-packed-run (given .edition) (given .state) (given .bit))
 
 pub step-packed-spec : {M : Type 1} → statement M
 step-packed-spec = tie.close (tie.spec slice-aggregate-run-packed run-packed-requires returns)

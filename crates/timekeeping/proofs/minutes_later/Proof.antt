@@ -12,10 +12,11 @@ use Rattle.timekeeping.proofs.minutes_later.Statement.{statement}
 use Rattle.timekeeping.proofs.minutes_later.Tie as tie
 
 abbrev Inv-loop : tie.InvT-loop
-Inv-loop minutes later₀ taken₀ later taken = (taken ≤ minutes) × ((r : Record) → later₀ ≡ nextMinuteOf r → later ≡ minutesLater taken r)
+Inv-loop edition minutes later₀ taken₀ later taken =
+    (taken ≤ minutes) × ((r : Record) → later₀ ≡ nextMinuteOf edition r → later ≡ minutesLater edition taken r)
 
 abbrev μ-loop : tie.MeasureT-loop
-μ-loop minutes later₀ taken₀ later taken = minutes - taken
+μ-loop edition minutes later₀ taken₀ later taken = minutes - taken
 
 next-minute-requires : tie.Need-next-minute-requires Inv-loop μ-loop
 next-minute-requires c κs = search needs

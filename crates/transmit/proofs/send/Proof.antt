@@ -6,10 +6,10 @@ use Rattle.transmit.proofs.send.Statement.{statement}
 use Rattle.transmit.proofs.send.Tie as tie
 
 abbrev Inv-loop : tie.InvT-loop
-Inv-loop minutes record₀ left₀ k₀ «record» left k = Unit {0}
+Inv-loop edition minutes record₀ left₀ k₀ «record» left k = Unit {0}
 
 abbrev μ-loop : tie.MeasureT-loop
-μ-loop minutes record₀ left₀ k₀ «record» left k = k
+μ-loop edition minutes record₀ left₀ k₀ «record» left k = k
 
 loop-holds : tie.Need-loop-holds Inv-loop μ-loop
 loop-holds c = tt

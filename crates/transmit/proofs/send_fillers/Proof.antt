@@ -10,10 +10,13 @@ use Rattle.transmit.proofs.send_fillers.Statement.{statement}
 use Rattle.transmit.proofs.send_fillers.Tie as tie
 
 abbrev Inv-loop : tie.InvT-loop
-Inv-loop left₀ i₀ left i = (i ≤ 29) × (left ≡ afterBlocks i left₀)
+Inv-loop word left₀ i₀ left i = (i ≤ 29) × (left ≡ afterBlocks i left₀)
 
 abbrev μ-loop : tie.MeasureT-loop
-μ-loop left₀ i₀ left i = 29 - i
+μ-loop word left₀ i₀ left i = 29 - i
+
+filler-requires : tie.Need-filler-requires Inv-loop μ-loop
+filler-requires c κs = search needs
 
 loop-holds : tie.Need-loop-holds Inv-loop μ-loop
 unfolding afterBlocks
@@ -41,7 +44,7 @@ loop-again : tie.Need-loop-again Inv-loop μ-loop
 loop-again c =
     let block = c .before .before .before in
     let at = block .before .before in
-    let more = one-more (at .loop .i) (at .before .args .start) (at .loop .inv .1) (block .send-block .result) (block .send-block .ensures) in
+    let more = one-more (at .loop .i) (at .before .before .args .start) (at .loop .inv .1) (block .send-block .result) (block .send-block .ensures) in
     (omega arith, rw (c .before .next .given .1) at more)
 
 returns-2 : tie.Need-returns-2 Inv-loop μ-loop
@@ -56,6 +59,7 @@ send-fillers-spec =
     (tie.spec
     Inv-loop
     μ-loop
+    filler-requires
     loop-holds
     send-block-requires
     enum-known-next

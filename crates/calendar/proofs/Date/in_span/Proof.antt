@@ -3,7 +3,7 @@
 use borrow.Author.Needs.{needs}
 use Rattle.calendar.specs.Dates.{dateIn}
 use Rattle.calendar.proofs.Answers.{usable-given}
-use Rattle.calendar.proofs.DayOfRecord.{found-kind}
+use Rattle.calendar.proofs.DayOfRecord.{has-week, found-kind}
 use Rattle.calendar.proofs.Date.in_span.Statement.{statement}
 use Rattle.calendar.proofs.Date.in_span.Tie as tie
 
@@ -13,8 +13,9 @@ year-of-requires c κs = search needs
 in-year-requires : tie.Need-in-year-requires
 in-year-requires c κs =
     let start = c .before in
-    let kind = found-kind (start .args .«record») (start .args .first-year) (start .pre .0) (start .pre .1) (usable-given _ _ (start .pre .2) .1) in
-    (rw (c .year-of .ensures) kind, start .pre .2)
+    let u = usable-given _ _ _ (start .pre .2) .1 in
+    let kind = found-kind _ (start .args .«record») (start .args .first-year) (start .pre .0) (start .pre .1) u in
+    rw (c .year-of .ensures) (has-week _ _ _ kind u)
 
 returns : tie.Need-returns
 unfolding dateIn

@@ -22,9 +22,12 @@ returns c =
     let offset = back {z = told .before .args .«record» .offset} (told .struct-told .given .1 .1 .1 .1 .1 .1 .0 .1) in
     rw (c .midnight .ensures, offset, lt-ltb _ 7 (day .if1 .taken))
 
+says-leap-requires : tie.Need-says-leap-requires
+says-leap-requires c κs = search needs
+
 weeks-of-requires : tie.Need-weeks-of-requires
 weeks-of-requires c κs =
-    let start = c .before .before .before in
+    let start = c .before .before .before .before in
     bounds (start .args .«record») (start .pre) .start-day
 
 add-midnight-2 : tie.Need-add-midnight-2
@@ -38,10 +41,10 @@ unfolding nextDay
 returns-2 c =
     let week = c .before .before in
     let weeks = week .before .before in
-    let day = weeks .before in
+    let day = weeks .before .before in
     let told = day .before .before in
     let offset = back {z = told .before .args .«record» .offset} (told .struct-told .given .1 .1 .1 .1 .1 .1 .0 .1) in
-    rw (c .midnight2 .ensures, offset, le-ltb _ 7 (day .if1 .left), ← weeks .weeks-of .ensures, lt-ltb _ _ (week .if2 .taken))
+    rw (c .midnight2 .ensures, offset, le-ltb _ 7 (day .if1 .left), ← weeks .before .says-leap .ensures, ← weeks .weeks-of .ensures, lt-ltb _ _ (week .if2 .taken))
 
 next-year-requires : tie.Need-next-year-requires
 next-year-requires c κs = search needs
@@ -51,7 +54,8 @@ unfolding nextDay
 returns-3 c =
     let week = c .before in
     let weeks = week .before .before in
-    rw (le-ltb _ 7 (weeks .before .if1 .left), ← weeks .weeks-of .ensures, le-ltb _ _ (week .if2 .left)) (c .next-year .ensures)
+    let count = rw (weeks .before .says-leap .ensures) at (weeks .weeks-of .ensures) in
+    rw (le-ltb _ 7 (weeks .before .before .if1 .left), ← count, le-ltb _ _ (week .if2 .left)) (c .next-year .ensures)
 
 pub next-day-spec : {M : Type 1} → statement M
 next-day-spec =
@@ -60,6 +64,7 @@ next-day-spec =
     add-midnight
     midnight-requires
     returns
+    says-leap-requires
     weeks-of-requires
     add-midnight-2
     midnight-requires-2

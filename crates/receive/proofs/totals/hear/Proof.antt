@@ -9,7 +9,7 @@ use lib.ListN.{length}
 use Rattle.receiver.specs.Packed.{unpacked}
 use Rattle.receiver.specs.Changes.{toChange}
 use Rattle.receiver.proofs.Changes.{change-bits, bits-taken}
-use Rattle.receive.specs.Totals.{heardOf}
+use Rattle.receive.specs.Totals.{edition, heardOf}
 use Rattle.receive.proofs.Hearing.{change-some, said-last, after-run}
 use Rattle.receive.proofs.totals.hear.Statement.{statement}
 use Rattle.receive.proofs.totals.hear.Tie as tie
@@ -40,9 +40,9 @@ returns c =
     let start = ran .before .before .before in
     let k = start .args .kept in
     let bits = start .args .bits .now in
-    let part : List ℕ = toChange (unpacked (k .state)) bits in
+    let part : List ℕ = toChange edition (unpacked (k .state)) bits in
     let some : 0 < length part = change-some (unpacked (k .state)) bits (start .pre .2) in
-    let fed = change-bits (unpacked (k .state)) bits (start .pre .1) in
+    let fed = change-bits edition (unpacked (k .state)) bits (start .pre .1) in
     rw (
       said-last k bits (start .pre .1) (start .pre .0),
       after-run k part (λ e. absurd (omega (arith, ap length e))) fed (start .pre .0),
@@ -52,7 +52,7 @@ returns c =
       adds .add .ensures,
       adds .before .wrapping-add-u64 .ensures,
       ran .run-to-change .ensures,
-      bits-taken (k .state) bits (start .pre .0) (start .pre .1) (start .pre .3),
+      bits-taken edition (k .state) bits (start .pre .0) (start .pre .1) (start .pre .3),
     )
 
 pub hear-spec : {M : Type 1} → statement M

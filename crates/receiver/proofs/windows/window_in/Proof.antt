@@ -2,10 +2,11 @@
 -- Assumes nothing.
 use borrow.Author.Needs.{needs}
 use mathlib.Core.Path.{refl, ap}
-use Prim.Native.Nat.{ℕ, _-_, _/_}
+use Prim.Native.Nat.{ℕ, _-_, _/_, _^_, _<_}
 use native.Mathlib.Omega.{arith}
 use lib.Pow.{pow-pos}
-use Rattle.receiver.proofs.Turning.{begun, few, window-lt}
+use Rattle.receiver.proofs.Numbers.{window-lt}
+use Rattle.receiver.proofs.Turning.{begun}
 use Rattle.receiver.proofs.windows.window_in.Statement.{statement}
 use Rattle.receiver.proofs.windows.window_in.Tie as tie
 
@@ -13,7 +14,7 @@ cast-waiting : tie.Need-cast-waiting
 cast-waiting c = search needs
 
 weight-requires : tie.Need-weight-requires
-weight-requires c κs = omega (arith, few (c .before .args .state) (c .before .pre))
+weight-requires c κs = omega arith
 
 div-bits : tie.Need-div-bits
 div-bits c = let state = c .before .before .before .args .state in rw (c .before .weight .ensures) (pow-pos (50 - state .waiting))
@@ -25,10 +26,12 @@ returns : tie.Need-returns
 returns c =
     let weight = c .before .before in
     let start = weight .before .before in
-    let p = start .args .state in (
+    let p = start .args .state in
+    let small : p .bits / weight .weight .result < 2 ^ p .waiting =
+    rw (weight .weight .ensures) (window-lt (p .waiting) (p .bits) (omega arith) (start .pre .1)) in (
       refl,
       ap (λ (q : ℕ). p .bits / q) (weight .weight .ensures),
-      (window-lt p (start .pre) _ (weight .weight .ensures), begun p (start .pre) _ (weight .weight .ensures) _ (c .remainder .ensures)),
+      (small, begun (p .waiting) _ _ (start .pre .0) small (c .remainder .ensures)),
     )
 
 pub window-in-spec : {M : Type 1} → statement M

@@ -14,14 +14,17 @@ enum-known-word c = search needs
 enum-told : tie.Need-enum-told
 enum-told c = search needs
 
+filler-requires : tie.Need-filler-requires
+filler-requires c κs = search needs
+
 returns : tie.Need-returns
 unfolding wordSent
 returns c = rw (← c .before .before .before .write-record .ensures, c .before .word .given .1)
 
 returns-2 : tie.Need-returns-2
 unfolding wordSent
-returns-2 c = rw (← c .before .before .write-record .ensures, c .enum-told .given .1)
+returns-2 c = rw (← c .before .before .before .write-record .ensures, c .before .enum-told .given .1) (c .filler .ensures)
 
 pub word-of-spec : {M : Type 1} → statement M
 word-of-spec =
-    tie.close (tie.spec write-record-requires enum-known-word enum-told returns returns-2)
+    tie.close (tie.spec write-record-requires enum-known-word enum-told filler-requires returns returns-2)
