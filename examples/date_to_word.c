@@ -23,7 +23,7 @@ static void show_refusal(uint8_t refusal)
 /* Writes the block of a date, or answers why there is none. */
 static uint8_t write_date(lw_date date, uint8_t bits[BLOCK])
 {
-    lw_recorded recorded = lw_record_of_date(date);
+    lw_recorded recorded = lw_record_of_date(LW_EDITION_1984, date);
     if (recorded.refusal != LW_OK) {
         return recorded.refusal;
     }
@@ -32,7 +32,7 @@ static uint8_t write_date(lw_date date, uint8_t bits[BLOCK])
            record.leap, record.start_day, record.week, record.weekday,
            record.hour, record.minute, record.offset);
 
-    lw_word written = lw_write_record(record);
+    lw_word written = lw_write_record(LW_EDITION_1984, record);
     if (written.refusal != LW_OK) {
         return written.refusal;
     }
@@ -49,12 +49,12 @@ static lw_dated read_date(const uint8_t bits[BLOCK])
         dated.refusal = block.refusal;
         return dated;
     }
-    lw_recorded recorded = lw_read_record(block.code, block.word);
+    lw_recorded recorded = lw_read_record(LW_EDITION_1984, block.code, block.word);
     if (recorded.refusal != LW_OK) {
         dated.refusal = recorded.refusal;
         return dated;
     }
-    return lw_date_of_record(recorded.record, FIRST_YEAR);
+    return lw_date_of_record(LW_EDITION_1984, recorded.record, FIRST_YEAR);
 }
 
 static void show(lw_date date)

@@ -24,7 +24,7 @@ static void hear(lw_state *state, uint32_t word, int damaged)
     if (damaged) {
         bits[20] ^= 1;
     }
-    lw_run(state, bits, BLOCK);
+    lw_run(LW_EDITION_1984, state, bits, BLOCK);
 }
 
 /* A minute of the feed: fillers, and the time block of this record. */
@@ -33,7 +33,7 @@ static void hear_minute(lw_state *state, lw_record record, int damaged)
     for (int block = 1; block < MINUTE; block++) {
         hear(state, FILLER, 0);
     }
-    hear(state, lw_write_record(record).word, damaged);
+    hear(state, lw_write_record(LW_EDITION_1984, record).word, damaged);
 }
 
 /* The minute that begins now. */
@@ -41,7 +41,7 @@ static lw_recorded minute_of(const lw_state *state)
 {
     lw_recorded now = { .refusal = LW_OK, .record = state->record };
     for (int blocks = MINUTE; blocks <= state->age && now.refusal == LW_OK; blocks += MINUTE) {
-        now = lw_next_minute(now.record);
+        now = lw_next_minute(LW_EDITION_1984, now.record);
     }
     return now;
 }
@@ -53,7 +53,7 @@ static void show(const lw_state *state)
         return;
     }
     lw_recorded now = minute_of(state);
-    lw_dated dated = lw_date_of_record(now.record, FIRST_YEAR);
+    lw_dated dated = lw_date_of_record(LW_EDITION_1984, now.record, FIRST_YEAR);
     uint8_t refusal = now.refusal != LW_OK ? now.refusal : dated.refusal;
     if (refusal != LW_OK) {
         printf("refused with %d: %s\n", refusal, reason_of(refusal));
@@ -75,7 +75,7 @@ int main(int argc, char **argv)
         return 2;
     }
     lw_date first = { .year = 1999, .month = 12, .day = 31, .hour = 23, .minute = 55 };
-    lw_recorded sent = lw_record_of_date(first);
+    lw_recorded sent = lw_record_of_date(LW_EDITION_1984, first);
     lw_state state = lw_fresh();
     for (const char *minute = argv[1]; *minute != '\0' && sent.refusal == LW_OK; minute++) {
         int damaged = *minute == '0';
@@ -83,7 +83,7 @@ int main(int argc, char **argv)
         printf("%02d:%02d %s: ", sent.record.hour, sent.record.minute,
                damaged ? "lost" : "came");
         show(&state);
-        sent = lw_next_minute(sent.record);
+        sent = lw_next_minute(LW_EDITION_1984, sent.record);
     }
     return 0;
 }

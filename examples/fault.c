@@ -54,9 +54,9 @@ static void show_feed(const uint8_t good[BLOCK], const uint8_t damaged[BLOCK])
 {
     lw_state state = lw_fresh();
     for (int i = 0; i < 3; i++) {
-        lw_run(&state, good, BLOCK);
+        lw_run(LW_EDITION_1984, &state, good, BLOCK);
     }
-    lw_counts counts = lw_run(&state, damaged, BLOCK);
+    lw_counts counts = lw_run(LW_EDITION_1984, &state, damaged, BLOCK);
     printf("in a feed, behind three good blocks: %" PRIu32 " bad\n", counts.bad);
     show_places(counts.remainder);
 }

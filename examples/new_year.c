@@ -23,18 +23,18 @@ static int refused(uint8_t refusal)
 static int over_midnight(uint16_t year, uint8_t month, uint8_t day)
 {
     lw_date last = {.year = year, .month = month, .day = day, .hour = 23, .minute = 59};
-    lw_recorded recorded = lw_record_of_date(last);
+    lw_recorded recorded = lw_record_of_date(LW_EDITION_1984, last);
     if (recorded.refusal != LW_OK) {
         return refused(recorded.refusal);
     }
     show(last, recorded.record);
 
-    lw_recorded next = lw_next_minute(recorded.record);
+    lw_recorded next = lw_next_minute(LW_EDITION_1984, recorded.record);
     if (next.refusal != LW_OK) {
         return refused(next.refusal);
     }
     /* The week's year is at most one away from the date's, and so in these 28. */
-    lw_dated dated = lw_date_of_record(next.record, (uint16_t)(year - 14));
+    lw_dated dated = lw_date_of_record(LW_EDITION_1984, next.record, (uint16_t)(year - 14));
     if (dated.refusal != LW_OK) {
         return refused(dated.refusal);
     }

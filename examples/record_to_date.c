@@ -22,11 +22,11 @@ int main(int argc, char **argv)
     uint32_t word = number_of("word", argv[1], UINT32_MAX);
     uint16_t first_year = (uint16_t)number_of("year", argv[2], UINT16_MAX);
 
-    lw_recorded recorded = lw_read_record(0, word);
+    lw_recorded recorded = lw_read_record(LW_EDITION_1984, 0, word);
     if (recorded.refusal != LW_OK) {
         return refused(recorded.refusal);
     }
-    lw_dated dated = lw_date_of_record(recorded.record, first_year);
+    lw_dated dated = lw_date_of_record(LW_EDITION_1984, recorded.record, first_year);
     if (dated.refusal != LW_OK) {
         return refused(dated.refusal);
     }

@@ -10,7 +10,7 @@ enum { FIRST_YEAR = 1970 };
 
 static void show_date(unsigned long heard, lw_record record)
 {
-    lw_dated dated = lw_date_of_record(record, FIRST_YEAR);
+    lw_dated dated = lw_date_of_record(LW_EDITION_1984, record, FIRST_YEAR);
     if (dated.refusal != LW_OK) {
         printf("bit %lu: refused with %d: %s\n", heard, dated.refusal, reason_of(dated.refusal));
         return;
@@ -31,7 +31,7 @@ static void receive(FILE *file)
         if (character != '0' && character != '1') {
             return;
         }
-        lw_counts counts = lw_feed(&state, (uint8_t)(character - '0'));
+        lw_counts counts = lw_feed(LW_EDITION_1984, &state, (uint8_t)(character - '0'));
         heard++;
         /* This bit ended a block, and the block confirmed the time. */
         if (counts.good == 1 && state.time == LW_CONFIRMED && state.age == 0) {

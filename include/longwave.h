@@ -15,7 +15,7 @@
  * bytes, numbers and fields are answered, if need be by a refusal.
  *
  * A caller has to be compiled with this header and not with an older one, since
- * lw_block and lw_counts have grown.
+ * lw_block and lw_counts have grown and calls about records take an edition.
  */
 #ifndef LONGWAVE_H
 #define LONGWAVE_H
@@ -40,7 +40,7 @@ enum {
     LW_WRONG_PREFIX = 3,      /* the prefix is 0 */
     LW_WRONG_CHECK_WORD = 4,  /* the check word is not the remainder */
     LW_NOT_A_RECORD = 5,      /* code not 0, or a filler, where a record is read */
-    LW_OUT_OF_RANGE = 6,      /* a field, code, month or day is out of range */
+    LW_OUT_OF_RANGE = 6,      /* an edition, field, code, month or day is out of range */
     LW_NOT_IN_YEAR = 7,       /* week 53 in a year without one */
     LW_WRONG_YEAR = 8,        /* the first of the 28 years, or the civil or coded year of a
                                  written date, is out of range */
@@ -111,6 +111,25 @@ lw_packed lw_pack(const uint8_t *bits, size_t len);
  * bytes then stay as they are. */
 uint8_t lw_unpack(uint64_t block, uint8_t *bits, size_t len);
 
+/* The edition of the specification that a sender follows. Every call that reads,
+ * writes, dates or judges a record takes it as its first parameter; any other
+ * number gets 6 before every other test, and a lent state then stays as it is.
+ *
+ *     leap code where         1984  1982
+ *     the coded year is leap    0     3
+ *     the year before was       1     2
+ *     the next year is          3     1
+ *     none of these is          2     0
+ *
+ * A block of code 0 is a filler and no record in 1984 where the first bit after
+ * the code is set, in 1982 where the six bits after the code are all 0; in 1982 a
+ * set first bit then gets 6. The start day is that of 1 January in both, and all
+ * else is the same too. */
+enum {
+    LW_EDITION_1984 = 1984,
+    LW_EDITION_1982 = 1982
+};
+
 /* What a time block says of the minute that begins with the first bit of the
  * next block. Time is UTC. The offset of local time is carried along with
  * records and dates, and never applied to them.
@@ -121,8 +140,7 @@ uint8_t lw_unpack(uint64_t block, uint8_t *bits, size_t len);
  * in the one after. It has 53 weeks if it starts on a Thursday, or is leap and
  * starts on a Wednesday, else 52. */
 typedef struct lw_record {
-    uint8_t leap;      /* 0 the coded year is leap, 1 the year before was, 2 two or more
-                          years away, 3 the next year is */
+    uint8_t leap;      /* 0 to 3; the edition says what it means */
     uint8_t start_day; /* weekday of 1 January of the coded year, 1 (Monday) to 7 */
     uint8_t week;      /* 1 to 53 */
     uint8_t weekday;   /* 1 (Monday) to 7 */
@@ -158,29 +176,33 @@ typedef struct lw_dated {
 } lw_dated;
 
 /* Reads the record in a block's code and word. Whether its year has its week
- * is not tested. Refusals, in this order: 5, 6. */
-lw_recorded lw_read_record(uint8_t code, uint32_t word);
+ * is not tested.
+ * Refusals, in this order: 6 for the edition, 5 for a code other than 0 or a
+ * filler, 6 for a field out of range and in 1982 for a set first bit. */
+lw_recorded lw_read_record(uint16_t edition, uint8_t code, uint32_t word);
 
-/* Answers the word of a record; its block has code 0. Whether its year has its
- * week is not tested. Refusal: 6. */
-lw_word lw_write_record(lw_record record);
+/* Answers the word of a record, the same in both editions; its block has code 0.
+ * Whether its year has its week is not tested.
+ * Refusals, in this order: 6 for the edition, 6 for a field. */
+lw_word lw_write_record(uint16_t edition, lw_record record);
 
 /* Answers the date of a record. A record names no year: leap code and start day
- * fix one coded year of the 28 from `first_year` (1901 to 2072) on. The date may
- * lie in the civil year before or after it.
- * Refusals, in this order: 8, 6, 7. */
-lw_dated lw_date_of_record(lw_record record, uint16_t first_year);
+ * fix one coded year of the 28 from `first_year` (1901 to 2072) on, in the other
+ * edition another one. The date may lie in the civil year before or after it.
+ * Refusals, in this order: 6 for the edition, 8, 6 for a field, 7. */
+lw_dated lw_date_of_record(uint16_t edition, lw_record record, uint16_t first_year);
 
 /* Answers the record of a date: every date of 1901 to 2099 has one, and so have
  * 31 December 1900 and 1 to 3 January 2100.
- * Refusals, in this order: 8 for a civil year outside 1900 to 2100, 6, and 8 for
- * a coded year outside 1901 to 2099. */
-lw_recorded lw_record_of_date(lw_date date);
+ * Refusals, in this order: 6 for the edition, 8 for a civil year outside 1900 to
+ * 2100, 6, and 8 for a coded year outside 1901 to 2099. */
+lw_recorded lw_record_of_date(uint16_t edition, lw_date date);
 
 /* Answers the record of the next minute, with the same offset. The last minute of
- * a coded year is followed by week 1, weekday 1 of the next kind of year.
- * Refusals, in this order: 6, 7. */
-lw_recorded lw_next_minute(lw_record record);
+ * a coded year is followed by week 1, weekday 1 of the next kind of year: leap
+ * codes go 0, 1, 2, 3, 0 in 1984, and 3, 2, 0, 1, 3 in 1982.
+ * Refusals, in this order: 6 for the edition, 6 for a field, 7. */
+lw_recorded lw_next_minute(uint16_t edition, lw_record record);
 
 /* What a receiver is doing. */
 enum {
@@ -203,7 +225,9 @@ enum {
  * A state is proper when every field has a value given here, the first `waiting`
  * of `bits` are 0 or 1, and whatever is not in use is 0: the other bits, and
  * with LW_NO_TIME the whole record and the age. Time is held only when locked,
- * and its record is usable: fields in range, and a week that its year has.
+ * and its record is usable: fields in range, and a week that its year has. Each
+ * call judges this by the edition that it is given: a state that holds a week 53
+ * under one may be improper (10) under the other.
  *
  * A time, candidate or confirmed, is held over three missed minutes, until 120
  * blocks have come since its record. The minute that begins now is that of the
@@ -219,8 +243,8 @@ typedef struct lw_state {
     uint8_t age;             /* 0 to 119 blocks since then */
 } lw_state;
 
-/* What a call did. Refused with 9 or 10, all counts and the remainder are 0; else
- * waiting before + bits fed = 50 (good + bad) + passed + waiting.
+/* What a call did. Refused with 6, 9 or 10, all counts and the remainder are 0;
+ * else waiting before + bits fed = 50 (good + bad) + passed + waiting.
  *
  * The remainder is that of the last bad block of this call that was refused with
  * 4, as lw_block tells it. A bad block behind it that was refused with 3 does not
@@ -238,14 +262,15 @@ typedef struct lw_counts {
 lw_state lw_fresh(void);
 
 /* Feeds one bit, as a run of that bit alone.
- * Refusals, in this order: 10, 1; the state then stays as it is. */
-lw_counts lw_feed(lw_state *state, uint8_t bit);
+ * Refusals, in this order: 6 for the edition, 10, 1; the state then stays as it
+ * is. */
+lw_counts lw_feed(uint16_t edition, lw_state *state, uint8_t bit);
 
 /* Feeds up to 65,536 bits, first sent bit first.
- * Refusals, in this order: 9, 10, and the state then stays as it is; or 1 at a
- * bit that is none, and state, counts and remainder are then those of the bits
- * before it. */
-lw_counts lw_run(lw_state *state, const uint8_t *bits, size_t len);
+ * Refusals, in this order: 6 for the edition, 9, 10, and the state then stays as
+ * it is; or 1 at a bit that is none, and state, counts and remainder are then
+ * those of the bits before it. */
+lw_counts lw_run(uint16_t edition, lw_state *state, const uint8_t *bits, size_t len);
 
 /* A receiver's state with the waiting bits in one number. It belongs to the
  * caller, who may copy it; all zeros are a fresh one. The bytes that the compiler
@@ -268,14 +293,16 @@ typedef struct lw_packed_state {
 lw_packed_state lw_fresh_packed(void);
 
 /* Feeds one bit, as a run of that bit alone.
- * Refusals, in this order: 10, 1; the state then stays as it is. */
-lw_counts lw_feed_packed(lw_packed_state *state, uint8_t bit);
+ * Refusals, in this order: 6 for the edition, 10, 1; the state then stays as it
+ * is. */
+lw_counts lw_feed_packed(uint16_t edition, lw_packed_state *state, uint8_t bit);
 
 /* Feeds up to 65,536 bits, each still a byte, first sent bit first.
- * Refusals, in this order: 9, 10, and the state then stays as it is; or 1 at a
- * bit that is none, and state, counts and remainder are then those of the bits
- * before it. */
-lw_counts lw_run_packed(lw_packed_state *state, const uint8_t *bits, size_t len);
+ * Refusals, in this order: 6 for the edition, 9, 10, and the state then stays as
+ * it is; or 1 at a bit that is none, and state, counts and remainder are then
+ * those of the bits before it. */
+lw_counts lw_run_packed(uint16_t edition, lw_packed_state *state,
+                        const uint8_t *bits, size_t len);
 
 /* What a Polish frame tells, the time signal on 225 kHz. The seven fields behind
  * the count are one bit each. Where two of them belong together, a table gives
