@@ -1,5 +1,5 @@
--- The leap code, which says how near a leap year is, by edition (01, "The time record"; 02, No. 3). Inside the calendar every fourth year is
--- leap: 1901 counts as a year after a leap year, and 2099 as one before.
+-- The leap code, which says how near a leap year is, by edition (01, "The time record"; 02, No. 3; the edition of 1982, 6.2.1, note 8).
+-- Inside the calendar every fourth year is leap: 1901 counts as a year after a leap year, and 2099 as one before.
 -- Assumes nothing.
 use Prim.Native.Nat.{ℕ, _+_, _%_}
 use mathlib.Core.Bool.{Bool}

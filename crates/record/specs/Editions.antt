@@ -1,4 +1,5 @@
--- The two editions of the specification, and which words are fillers in each (01, "The time record"; 02, No. 3).
+-- The two editions of the specification, and which words are fillers in each (01, "The time record"; 02, No. 3; the edition of 1982,
+-- 6.2.1, note 10).
 -- Assumes nothing.
 use Prim.Native.Nat.{ℕ, _^_}
 use mathlib.Core.Bool.{Bool, cond}

@@ -2,12 +2,13 @@
 // specification (document 02, No. 3).
 ghost use mathlib.Core.Path.{_≡_};
 ghost use mathlib.Core.Bool.{true};
-ghost use Prim.Native.Nat.{_<_};
+ghost use Prim.Native.Nat.{_+_, _<_};
 ghost use Rattle.record.specs.Editions.{editionOf, isFiller};
-ghost use Rattle.record.specs.Fields.{offsetOf, sixOf, fieldsOf, wordOf};
+ghost use Rattle.record.specs.Fields.{flagOf, offsetOf, sixOf, fieldsOf, wordOf};
 ghost use Rattle.record.specs.Given.{zeroRecord};
 ghost use Rattle.record.specs.Ranges.{within, offsetInRange, timeInRange, kindInRange, dayInRange, inRange};
 ghost use Rattle.record.specs.Words.{readOf, writtenOf};
+ghost use Rattle.record.specs.declared.Recorded.the-variants.{Refused};
 use refusal::Refusal;
 
 // The specification that a sender follows.
@@ -82,15 +83,12 @@ pub fn edition_of(number: u16) -> Named
 pub fn read_record(edition: Edition, code: u8, word: u32) -> Recorded
     ensures { λ r. ⌜ r ≡ readOf edition code word ⌝ }
 {
-    if code != 0 {
-        return Recorded::Refused(Refusal::NotARecord);
+    // Most blocks that a receiver meets go here, by one test: they are of another code, or have their first bit set.
+    if code as u32 + word / 2147483648 != 0 {
+        return Recorded::Refused(no_record(edition, code, word));
     }
     if is_filler(edition, word) {
         return Recorded::Refused(Refusal::NotARecord);
-    }
-    // In 1982 a word with its first bit set is no filler, and no record either.
-    if word / 2147483648 % 2 != 0 {
-        return Recorded::Refused(Refusal::OutOfRange);
     }
     let record = fields(word);
     if in_range(record) {
@@ -98,6 +96,21 @@ pub fn read_record(edition: Edition, code: u8, word: u32) -> Recorded
     } else {
         Recorded::Refused(Refusal::OutOfRange)
     }
+}
+
+// Why there is no record in a block of another code than 0, or with its first bit set.
+fn no_record(edition: Edition, code: u8, word: u32) -> Refusal
+    requires { ⌜ (code + flagOf word ≡ 0 → ⊥) ⌝ }
+    ensures { λ r. ⌜ readOf edition code word ≡ Refused r ⌝ }
+{
+    if code != 0 {
+        return Refusal::NotARecord;
+    }
+    if is_filler(edition, word) {
+        return Refusal::NotARecord;
+    }
+    // In 1982 the first bit marks nothing, and is out of range.
+    Refusal::OutOfRange
 }
 
 // In 1984 a set first bit marks a filler, in 1982 six zeros behind the code.
