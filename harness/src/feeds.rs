@@ -1,11 +1,12 @@
-//! Feeds as they are sent, thirty blocks a minute with the time block last, and
-//! what can befall them on the way.
+//! Feeds as they are sent under an edition, thirty blocks a minute with the time
+//! block last, and what can befall them on the way.
 
 pub use crate::independent::receiver::MINUTE;
 
 use crate::face::Record;
-use crate::independent::{bits_of, block, calendar, record, BLOCK};
+use crate::independent::{bits_of, block, calendar, record, Edition, BLOCK};
 use crate::random::Random;
+use crate::refusals::NOT_A_RECORD;
 
 /// The time block of a record whose fields are in range.
 pub fn time_block(record: Record) -> u64 {
@@ -17,9 +18,22 @@ pub fn bits_of_all(blocks: &[u64]) -> Vec<u8> {
     blocks.iter().flat_map(|&sent| bits_of(sent)).collect()
 }
 
-/// A filler: code 0 and a set first bit.
-fn filler(random: &mut Random) -> u64 {
-    block(0, random.number() as u32 | 1 << 31)
+/// The filler with nothing set but what makes it one.
+pub fn empty_filler(edition: Edition) -> u64 {
+    block(0, filler_word(edition, 0))
+}
+
+/// A filler whose undefined bits are these, as far as it has room for them: code
+/// 0 and a set first bit, or six bits 0.
+fn filler_word(edition: Edition, undefined: u32) -> u32 {
+    match edition {
+        Edition::Of1984 => undefined | 1 << 31,
+        Edition::Of1982 => undefined >> 6,
+    }
+}
+
+fn filler(edition: Edition, random: &mut Random) -> u64 {
+    block(0, filler_word(edition, random.number() as u32))
 }
 
 /// A block of another service.
@@ -28,17 +42,29 @@ fn other_code(random: &mut Random) -> u64 {
 }
 
 /// A transmitter; its next time block tells this minute.
-pub struct Sender(pub Record);
+pub struct Sender {
+    pub edition: Edition,
+    pub next: Record,
+}
 
 impl Sender {
+    pub fn of(edition: Edition, next: Record) -> Self {
+        Sender { edition, next }
+    }
+
+    /// One that begins with any minute there is.
+    pub fn any(edition: Edition, random: &mut Random) -> Self {
+        Sender::of(edition, random.usable_record(edition))
+    }
+
     /// The blocks of one minute.
     pub fn minute(&mut self, random: &mut Random) -> [u64; MINUTE] {
-        let told = self.0;
-        self.0 = calendar::next_minute(told).expect("a usable record");
+        let told = self.next;
+        self.next = calendar::next_minute(self.edition, told).expect("a usable record");
         std::array::from_fn(|place| match random.below(4) {
             _ if place == MINUTE - 1 => time_block(told),
             0 => other_code(random),
-            _ => filler(random),
+            _ => filler(self.edition, random),
         })
     }
 
@@ -50,16 +76,15 @@ impl Sender {
 
 /// A feed as the test generator sends it: empty fillers, a minute to a line, as
 /// characters.
-pub fn plain(first: Record, minutes: usize) -> String {
-    let filler = block(0, 1 << 31);
+pub fn plain(edition: Edition, first: Record, minutes: usize) -> String {
     let mut text = String::new();
     let mut told = first;
     for _ in 0..minutes {
-        let mut sent = [filler; MINUTE];
+        let mut sent = [empty_filler(edition); MINUTE];
         sent[MINUTE - 1] = time_block(told);
         text.extend(bits_of_all(&sent).iter().map(|&bit| char::from(b'0' + bit)));
         text.push('\n');
-        told = calendar::next_minute(told).expect("a usable record");
+        told = calendar::next_minute(edition, told).expect("a usable record");
     }
     text
 }
@@ -99,7 +124,7 @@ pub const MISHAPS: [Mishap; 12] = [
 
 impl Mishap {
     /// What is received where this block was sent.
-    pub fn befalling(self, sent: u64, random: &mut Random) -> Vec<u8> {
+    pub fn befalling(self, edition: Edition, sent: u64, random: &mut Random) -> Vec<u8> {
         let mut bits = bits_of(sent).to_vec();
         let place = random.below(BLOCK);
         match self {
@@ -113,10 +138,10 @@ impl Mishap {
             Mishap::LostBit => drop(bits.remove(place)),
             Mishap::ExtraBit => bits.insert(place, random.between(0, 1)),
             Mishap::Noise => bits = random.bits(4 * place),
-            Mishap::Filler => bits = bits_of_all(&[filler(random)]),
+            Mishap::Filler => bits = bits_of_all(&[filler(edition, random)]),
             Mishap::OtherCode => bits = bits_of_all(&[other_code(random)]),
-            Mishap::OtherTime => bits = bits_of_all(&[time_block(random.usable_record())]),
-            Mishap::Unusable => bits = bits_of_all(&[unusable_time_block(random)]),
+            Mishap::OtherTime => bits = bits_of_all(&[time_block(random.usable_record(edition))]),
+            Mishap::Unusable => bits = bits_of_all(&[unusable_time_block(edition, random)]),
             Mishap::OtherFeed => bits.truncate(place),
         }
         bits
@@ -124,10 +149,14 @@ impl Mishap {
 }
 
 /// A time block with a field out of range or a week that is not in its year.
-pub fn unusable_time_block(random: &mut Random) -> u64 {
+pub fn unusable_time_block(edition: Edition, random: &mut Random) -> u64 {
     loop {
-        let word = random.number() as u32 >> 1;
-        if !record::read(0, word).is_ok_and(|record| calendar::usable(&record)) {
+        let word = random.number() as u32;
+        let unusable = match record::read(edition, 0, word) {
+            Ok(record) => !calendar::usable(edition, &record),
+            Err(refusal) => refusal != NOT_A_RECORD,
+        };
+        if unusable {
             return block(0, word);
         }
     }
@@ -136,12 +165,13 @@ pub fn unusable_time_block(random: &mut Random) -> u64 {
 /// A feed of up to so many minutes, which begins in the middle of one. About
 /// one block of `every` meets with a mishap that `choose` gives.
 pub fn troubled(
+    edition: Edition,
     random: &mut Random,
     minutes: usize,
     every: usize,
     choose: impl Fn(&mut Random) -> Mishap,
 ) -> Vec<u8> {
-    let mut sender = Sender(random.usable_record());
+    let mut sender = Sender::any(edition, random);
     let mut feed = Vec::new();
     for _ in 0..minutes {
         for sent in sender.minute(random) {
@@ -150,9 +180,9 @@ pub fn troubled(
                 continue;
             }
             let mishap = choose(random);
-            feed.extend(mishap.befalling(sent, random));
+            feed.extend(mishap.befalling(edition, sent, random));
             if mishap == Mishap::OtherFeed {
-                sender = Sender(random.usable_record());
+                sender = Sender::any(edition, random);
                 break;
             }
         }

@@ -1,17 +1,20 @@
 //! The answers, written from documents 01 and 02 alone. Here the block, by long
-//! division on one number; the block that stays a number, the record, the
-//! calendar, the receiver, its packed state and the Polish frame have files of
-//! their own.
+//! division on one number; the block that stays a number, the editions, the
+//! record, the calendar, the receiver, its packed state and the Polish frame have
+//! files of their own.
 //!
 //! A polynomial modulo 2 is a number, one bit for each power of x, and a block
 //! is its fifty bits as one number: bit 49 is the first sent.
 
 pub mod calendar;
+pub mod edition;
 pub mod packed;
 pub mod packed_state;
 pub mod polish;
 pub mod receiver;
 pub mod record;
+
+pub use edition::{Edition, EDITIONS};
 
 use crate::refusals::{OUT_OF_RANGE, WRONG_CHECK_WORD, WRONG_LENGTH};
 

@@ -4,7 +4,7 @@ use std::env;
 
 use crate::face::{Date, Polish, Record};
 use crate::independent::polish::SYMBOLS;
-use crate::independent::{bits_of, block, calendar, BLOCK};
+use crate::independent::{bits_of, block, calendar, Edition, BLOCK};
 
 /// The seed: `HARNESS_SEED` if it is set, else a fixed one.
 pub fn seed() -> u64 {
@@ -118,9 +118,10 @@ impl Random {
         }
     }
 
-    /// A record that the receiver can use.
-    pub fn usable_record(&mut self) -> Record {
-        std::iter::repeat_with(|| self.record()).find(calendar::usable).expect("there is no end")
+    /// A record that the receiver can use under an edition.
+    pub fn usable_record(&mut self, edition: Edition) -> Record {
+        let mut records = std::iter::repeat_with(|| self.record());
+        records.find(|record| calendar::usable(edition, record)).expect("there is no end")
     }
 
     /// A date of 1900 to 2100. Its month may lack its day.

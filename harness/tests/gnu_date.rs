@@ -1,5 +1,6 @@
 //! The library's calendar against a program that nobody here wrote: GNU `date`
 //! gives year, number and weekday of the week, and which years have a day 366.
+//! From this each edition has its leap code.
 
 use std::collections::{BTreeMap, BTreeSet};
 use std::fs;
@@ -70,26 +71,28 @@ impl Years {
         }
     }
 
-    /// The leap code as document 01 explains it.
-    fn leap_code(&self, year: u16) -> u8 {
+    /// The leap codes of 1984, as document 01 explains them, and of 1982, as the
+    /// specification of that year does.
+    fn leap_codes(&self, year: u16) -> [(u16, u8); 2] {
         if self.leap.contains(&year) {
-            0
+            [(1984, 0), (1982, 0b11)]
         } else if year == 1901 || self.leap.contains(&(year - 1)) {
-            1
+            [(1984, 1), (1982, 0b10)]
         } else if year == 2099 || self.leap.contains(&(year + 1)) {
-            3
+            [(1984, 3), (1982, 0b01)]
         } else {
-            2
+            [(1984, 2), (1982, 0b00)]
         }
     }
 }
 
 /// The library must answer with this record for the date, and with the date
 /// for the record.
-fn must_agree(date: Date, record: Record, coded_year: u16) {
-    assert_eq!(face::record_of_date(date), Recorded::from(Ok(record)), "{date:?}");
-    let first_year = coded_year.min(2072);
-    assert_eq!(face::date_of_record(record, first_year), Dated::from(Ok(date)), "{record:?}");
+fn must_agree(edition: u16, date: Date, record: Record, coded_year: u16) {
+    let recorded = face::record_of_date(edition, date);
+    assert_eq!(recorded, Recorded::from(Ok(record)), "{date:?}, edition {edition}");
+    let dated = face::date_of_record(edition, record, coded_year.min(2072));
+    assert_eq!(dated, Dated::from(Ok(date)), "{record:?}, edition {edition}");
 }
 
 #[test]
@@ -103,15 +106,19 @@ fn every_day_as_gnu_date_has_it() {
     for Line { coded_year, week, weekday, year, month, day, .. } in lines {
         let date = Date { year, month, day, hour, minute, offset };
         if (1901..=2099).contains(&coded_year) {
-            let leap = years.leap_code(coded_year);
             let start_day = years.start_days[&coded_year];
-            let record = Record { leap, start_day, week, weekday, hour, minute, offset };
-            must_agree(date, record, coded_year);
+            for (edition, leap) in years.leap_codes(coded_year) {
+                let record = Record { leap, start_day, week, weekday, hour, minute, offset };
+                must_agree(edition, date, record, coded_year);
+            }
             with_record += 1;
         } else {
-            assert_eq!(face::record_of_date(date), Recorded::from(Err(WRONG_YEAR)), "{date:?}");
+            let recorded = [1984, 1982].map(|edition| face::record_of_date(edition, date));
+            assert_eq!(recorded, [Recorded::from(Err(WRONG_YEAR)); 2], "{date:?}");
         }
     }
     assert_eq!(with_record, DAYS_WITH_RECORD);
-    println!("days as GNU date has them: {DAYS} compared, {with_record} with a record");
+    println!(
+        "days as GNU date has them, in both editions: {DAYS} compared, {with_record} with a record"
+    );
 }

@@ -1,5 +1,6 @@
 //! The library's receiver where time blocks are lost: how the time stands after
-//! every minute, beside the plain words of the rule, and how long a dial waits.
+//! every minute, beside the plain words of the rule, and how long a dial waits,
+//! under both editions.
 
 use std::ops::RangeInclusive;
 
@@ -7,7 +8,7 @@ use harness::compare::Receiver;
 use harness::face::{Date, Record, State, CANDIDATE, CONFIRMED, NO_TIME};
 use harness::feeds::{Mishap, Sender, MINUTE};
 use harness::independent::receiver::{History, HELD};
-use harness::independent::{bits_of, calendar, BLOCK};
+use harness::independent::{bits_of, calendar, Edition, BLOCK, EDITIONS};
 use harness::random::{report, Random};
 
 /// What befalls each block of a minute.
@@ -22,15 +23,16 @@ const LOSSES: [Mishap; 3] = [Mishap::SingleError, Mishap::Filler, Mishap::Unusab
 /// Minutes of which every pattern is tried.
 const MINUTES: usize = 8;
 
-/// 28 December 1986, 23:56. Half of the eight minutes are in the first week of 1987.
+/// 28 December 1986, 23:56, in 1984. Half of the eight minutes are in the first
+/// week of 1987.
 const FIRST: Record =
     Record { leap: 2, start_day: 3, week: 52, weekday: 7, hour: 23, minute: 56, offset: 0 };
 
 /// The bits received of a minute.
-fn received(sent: [u64; MINUTE], mishaps: Mishaps, random: &mut Random) -> Vec<u8> {
-    let each = sent.into_iter().zip(mishaps);
+fn received(sender: &mut Sender, mishaps: Mishaps, random: &mut Random) -> Vec<u8> {
+    let each = sender.minute(random).into_iter().zip(mishaps);
     each.flat_map(|(block, mishap)| match mishap {
-        Some(mishap) => mishap.befalling(block, random),
+        Some(mishap) => mishap.befalling(sender.edition, block, random),
         None => bits_of(block).to_vec(),
     })
     .collect()
@@ -70,31 +72,53 @@ fn pattern(number: usize) -> [bool; MINUTES] {
 }
 
 /// What the eight time blocks tell.
-fn told() -> [Record; MINUTES] {
-    std::array::from_fn(|minute| calendar::minutes_later(FIRST, minute).expect("a record"))
+fn told(edition: Edition) -> [Record; MINUTES] {
+    let first = edition.telling(FIRST);
+    std::array::from_fn(|minute| calendar::minutes_later(edition, first, minute).expect("a record"))
+}
+
+/// The transmitter that sends them.
+fn sender(edition: Edition) -> Sender {
+    Sender::of(edition, edition.telling(FIRST))
 }
 
 fn any_loss(random: &mut Random) -> Mishap {
     LOSSES[random.below(LOSSES.len())]
 }
 
+/// Time blocks come through or are lost so; gives how many bits there were.
+fn must_stand_after_each_minute(
+    edition: Edition,
+    came: [bool; MINUTES],
+    random: &mut Random,
+    loss: impl Fn(&mut Random) -> Mishap,
+) -> usize {
+    let mut receiver = Receiver::fresh(edition);
+    let mut sender = sender(edition);
+    let mut count = 0;
+    for minute in 0..MINUTES {
+        let loss = loss(random);
+        let mishaps = losing((!came[minute]).then_some(loss));
+        for bit in received(&mut sender, mishaps, random) {
+            receiver.feed(bit);
+            count += 1;
+        }
+        must_stand(receiver.state(), &came[..=minute], &told(edition));
+    }
+    count
+}
+
 #[test]
 fn every_pattern_of_eight_minutes() {
     let mut random = Random::named("patterns");
     let mut count = 0;
-    // All lost in one of the ways, and each in any of them.
-    for way in 0..=LOSSES.len() {
-        for came in (0..1 << MINUTES).map(pattern) {
-            let mut receiver = Receiver::fresh();
-            let mut sender = Sender(FIRST);
-            for minute in 0..MINUTES {
-                let loss = LOSSES.get(way).copied().unwrap_or_else(|| any_loss(&mut random));
-                let mishaps = losing((!came[minute]).then_some(loss));
-                for bit in received(sender.minute(&mut random), mishaps, &mut random) {
-                    receiver.feed(bit);
-                    count += 1;
-                }
-                must_stand(receiver.state(), &came[..=minute], &told());
+    for edition in EDITIONS {
+        // All lost in one of the ways, and each in any of them.
+        for way in 0..=LOSSES.len() {
+            let loss =
+                |random: &mut Random| LOSSES.get(way).copied().unwrap_or_else(|| any_loss(random));
+            for came in (0..1 << MINUTES).map(pattern) {
+                count += must_stand_after_each_minute(edition, came, &mut random, loss);
             }
         }
     }
@@ -106,31 +130,37 @@ fn nothing_is_kept_across_a_lost_lock() {
     const COUNT: usize = 2_000;
     let mut random = Random::named("lost locks");
     for _ in 0..COUNT {
-        let came = pattern(random.below(1 << MINUTES));
-        // Four bad blocks behind the first one of a minute.
-        let lost = 1 + random.below(MINUTES - 1);
-        let bad = 1 + random.below(MINUTE - 4);
-        // The three that give lock again must all be before the time block.
-        let mut offered = came;
-        offered[lost] &= bad + 4 + 3 <= LAST;
-
-        let mut receiver = Receiver::fresh();
-        let mut sender = Sender(FIRST);
-        for minute in 0..MINUTES {
-            let mut mishaps = losing((!came[minute]).then(|| any_loss(&mut random)));
-            if minute == lost {
-                mishaps[bad..bad + 4].fill(Some(Mishap::SingleError));
-            }
-            let bits = received(sender.minute(&mut random), mishaps, &mut random);
-            let (before, behind) = bits.split_at((bad + 4) * BLOCK);
-            receiver.run(before);
-            assert_eq!(minute == lost, *receiver.state() == State::FRESH, "minute {minute}");
-            receiver.run(behind);
-            let start = if minute < lost { 0 } else { lost };
-            must_stand(receiver.state(), &offered[start..=minute], &told()[start..]);
+        for edition in EDITIONS {
+            must_lose_the_lock(edition, &mut random);
         }
     }
-    report("feeds of eight minutes that lose the lock", COUNT);
+    report("feeds of eight minutes that lose the lock", 2 * COUNT);
+}
+
+fn must_lose_the_lock(edition: Edition, random: &mut Random) {
+    let came = pattern(random.below(1 << MINUTES));
+    // Four bad blocks behind the first one of a minute.
+    let lost = 1 + random.below(MINUTES - 1);
+    let bad = 1 + random.below(MINUTE - 4);
+    // The three that give lock again must all be before the time block.
+    let mut offered = came;
+    offered[lost] &= bad + 4 + 3 <= LAST;
+
+    let mut receiver = Receiver::fresh(edition);
+    let mut sender = sender(edition);
+    for minute in 0..MINUTES {
+        let mut mishaps = losing((!came[minute]).then(|| any_loss(random)));
+        if minute == lost {
+            mishaps[bad..bad + 4].fill(Some(Mishap::SingleError));
+        }
+        let bits = received(&mut sender, mishaps, random);
+        let (before, behind) = bits.split_at((bad + 4) * BLOCK);
+        receiver.run(before);
+        assert_eq!(minute == lost, *receiver.state() == State::FRESH, "minute {minute}");
+        receiver.run(behind);
+        let start = if minute < lost { 0 } else { lost };
+        must_stand(receiver.state(), &offered[start..=minute], &told(edition)[start..]);
+    }
 }
 
 /// Minutes in a month.
@@ -218,18 +248,19 @@ struct Month {
 
 impl Month {
     /// Both hear the same bits. The library is compared after every minute.
-    fn with(what: &str, mishaps: impl Fn(&mut Random) -> Mishaps) -> Self {
+    fn with(edition: Edition, what: &str, mishaps: impl Fn(&mut Random) -> Mishaps) -> Self {
         let mut random = Random::named(what);
         let date = Date { year: 1986, month: 12, day: 15, ..Date::default() };
-        let mut sender = Sender(calendar::record_of_date(date).expect("a record"));
-        let mut history = History::holding_for(1);
-        let mut receiver = Receiver::fresh();
+        let first = calendar::record_of_date(edition, date).expect("a record");
+        let mut sender = Sender::of(edition, first);
+        let mut history = History::holding_for(edition, 1);
+        let mut receiver = Receiver::fresh(edition);
         let [before, after] = [Dial::default(), Dial::default()];
         let mut month = Month { came: Vec::new(), before, after, lost_locks: 0 };
         for _ in 0..MONTH {
             let mishaps = mishaps(&mut random);
             month.came.push(mishaps[LAST].is_none());
-            let bits = received(sender.minute(&mut random), mishaps, &mut random);
+            let bits = received(&mut sender, mishaps, &mut random);
             for &bit in &bits {
                 let locked = history.is_locked();
                 history.hear(bit);
@@ -239,7 +270,7 @@ impl Month {
             month.before.look_at(&history.state());
             month.after.look_at(receiver.state());
         }
-        report(&format!("bits of a month, {what}"), MONTH * MINUTE * BLOCK);
+        report(&format!("bits of a month, {what}, {edition:?}"), MONTH * MINUTE * BLOCK);
         month
     }
 
@@ -271,32 +302,41 @@ fn one_in_ten(random: &mut Random) -> Option<Mishap> {
 #[test]
 fn a_month_with_one_time_block_in_ten_damaged() {
     let what = "one time block in ten damaged";
-    let month = Month::with(what, |random| losing(one_in_ten(random)));
-    assert_eq!(month.lost_locks, 0);
-    for (dial, held, single) in [(&month.before, 1, 2), (&month.after, HELD, 1)] {
-        for minute in 0..MONTH {
-            let (time, ago) = standing(&month.came[..=minute], held).unwrap_or((NO_TIME, 0));
-            let confirmed = time == CONFIRMED;
-            assert_eq!(dial.confirmed[minute], confirmed, "minute {minute}, {held} held");
-            assert_eq!(dial.set[minute], confirmed && ago == 0, "minute {minute}, {held} held");
+    for edition in EDITIONS {
+        let month = Month::with(edition, what, |random| losing(one_in_ten(random)));
+        assert_eq!(month.lost_locks, 0);
+        for (dial, held, single) in [(&month.before, 1, 2), (&month.after, HELD, 1)] {
+            must_follow_the_rule(dial, &month.came, held);
+            let mut waits = dial.waits();
+            waits.retain(|&(first, _)| month.came[first..].starts_with(&[false, true, true]));
+            assert!(waits.len() > 2_000, "{} single losses", waits.len());
+            assert!(waits.iter().all(|&(_, wait)| wait == single), "single losses: {waits:?}");
         }
-        let mut waits = dial.waits();
-        waits.retain(|&(first, _)| month.came[first..].starts_with(&[false, true, true]));
-        assert!(waits.len() > 2_000, "{} single losses", waits.len());
-        assert!(waits.iter().all(|&(_, wait)| wait == single), "single losses: {waits:?}");
+        let [before, after] = month.figures(&format!("{what}, {edition:?}"));
+        before.must_lie_in(UNTIL_TWO, 5..=40, 7_000..=9_500);
+        after.must_lie_in(UNTIL_ONE, 3..=20, 1..=100);
     }
-    let [before, after] = month.figures(what);
-    before.must_lie_in(UNTIL_TWO, 5..=40, 7_000..=9_500);
-    after.must_lie_in(UNTIL_ONE, 3..=20, 1..=100);
+}
+
+/// A dial must stand after each minute as these time blocks leave it.
+fn must_follow_the_rule(dial: &Dial, came: &[bool], held: usize) {
+    for minute in 0..MONTH {
+        let (time, ago) = standing(&came[..=minute], held).unwrap_or((NO_TIME, 0));
+        let confirmed = time == CONFIRMED;
+        assert_eq!(dial.confirmed[minute], confirmed, "minute {minute}, {held} held");
+        assert_eq!(dial.set[minute], confirmed && ago == 0, "minute {minute}, {held} held");
+    }
 }
 
 #[test]
 fn a_month_with_one_block_in_ten_damaged() {
     let what = "one block in ten damaged";
-    let month = Month::with(what, |random| [(); MINUTE].map(|()| one_in_ten(random)));
-    // About nine blocks in 100,000 are good ones with four bad ones behind them.
-    assert!((60..=200).contains(&month.lost_locks), "{} locks lost", month.lost_locks);
-    let [before, after] = month.figures(what);
-    before.must_lie_in(UNTIL_TWO, 5..=40, 7_000..=9_500);
-    after.must_lie_in(UNTIL_ONE, 3..=20, 60..=500);
+    for edition in EDITIONS {
+        let month = Month::with(edition, what, |random| [(); MINUTE].map(|()| one_in_ten(random)));
+        // About nine blocks in 100,000 are good ones with four bad ones behind them.
+        assert!((60..=200).contains(&month.lost_locks), "{} locks lost", month.lost_locks);
+        let [before, after] = month.figures(&format!("{what}, {edition:?}"));
+        before.must_lie_in(UNTIL_TWO, 5..=40, 7_000..=9_500);
+        after.must_lie_in(UNTIL_ONE, 3..=20, 60..=500);
+    }
 }

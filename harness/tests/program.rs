@@ -15,6 +15,7 @@ use harness::face::{CONFIRMED, LOCKED};
 use harness::feeds::{troubled, MISHAPS};
 use harness::independent::calendar::date_of_record;
 use harness::independent::receiver::History;
+use harness::independent::{Edition, EDITIONS};
 use harness::program::{example, output, printed, product};
 use harness::random::{report, Random};
 
@@ -79,7 +80,7 @@ fn the_sample() {
 /// What the example in C shows, from the history of the sample.
 #[test]
 fn the_times_of_the_sample() {
-    let mut history = History::fresh();
+    let mut history = History::fresh(Edition::Of1984);
     let mut shown = String::new();
     for bit in stored("feed.txt").bytes().take_while(|&byte| byte != b'x') {
         if bit == b'\n' {
@@ -88,7 +89,7 @@ fn the_times_of_the_sample() {
         history.hear(bit - b'0');
         let state = history.state();
         if (state.mode, state.time, state.age, state.waiting) == (LOCKED, CONFIRMED, 0, 0) {
-            let date = date_of_record(state.record, 1970).expect("a date");
+            let date = date_of_record(Edition::Of1984, state.record, 1970).expect("a date");
             writeln!(
                 shown,
                 "bit {}: {:04}-{:02}-{:02} {:02}:{:02} UTC, offset {}",
@@ -110,9 +111,9 @@ fn the_times_of_the_sample() {
 fn long_inputs() {
     let mut random = Random::named("inputs");
     let mut count = 0;
-    for round in 0..20 {
+    for (round, edition) in (0..20).flat_map(|round| EDITIONS.map(|edition| (round, edition))) {
         let any = |random: &mut Random| MISHAPS[random.below(MISHAPS.len())];
-        let mut bits = troubled(&mut random, 150, 100, any);
+        let mut bits = troubled(edition, &mut random, 150, 100, any);
         bits.extend(random.bits(100_000));
         // Lines of a block, of any length, or none.
         let often = [51, 2, 1_000_000][round % 3];

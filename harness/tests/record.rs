@@ -1,13 +1,15 @@
 //! The library's time record against the independent program: words that are
-//! read, and records that are written.
+//! read, and records that are written, under both editions.
 
 use harness::compare::{reading_record, writing_record};
 use harness::face::Record;
 use harness::fields;
+use harness::independent::{Edition, EDITIONS};
 use harness::random::{report, Random};
 use harness::refusals::{NOT_A_RECORD, OUT_OF_RANGE};
 
-/// 1 January 1986, 12:34, one hour ahead.
+/// 1 January 1986, 12:34, one hour ahead, in 1984. A word has the same fields in
+/// both editions.
 const WORD: u32 = 0x4C16_C882;
 const RECORD: Record =
     Record { leap: 2, start_day: 3, week: 1, weekday: 3, hour: 12, minute: 34, offset: 2 };
@@ -21,32 +23,55 @@ const FIELDS: [(u32, u32); 8] =
     [(31, 1), (29, 2), (26, 3), (20, 6), (17, 3), (12, 5), (6, 6), (0, 6)];
 
 /// Compares the reading of a word; a record must give the same word again.
-fn read_and_write_again(word: u32) -> Result<Record, u8> {
-    let answer = reading_record(0, word);
+fn read_and_write_again(edition: Edition, word: u32) -> Result<Record, u8> {
+    let answer = reading_record(edition, 0, word);
     if let Ok(record) = answer {
-        assert_eq!(writing_record(record), Ok(word));
+        assert_eq!(writing_record(edition, record), Ok(word));
     }
     answer
 }
 
 /// Compares the writing of a record; its word must give the same record again.
-fn write_and_read_again(record: Record) -> Result<u32, u8> {
-    let answer = writing_record(record);
+fn write_and_read_again(edition: Edition, record: Record) -> Result<u32, u8> {
+    let answer = writing_record(edition, record);
     if let Ok(word) = answer {
-        assert_eq!(reading_record(0, word), Ok(record));
+        assert_eq!(reading_record(edition, 0, word), Ok(record));
     }
     answer
 }
 
 #[test]
 fn the_places_to_look() {
-    assert_eq!(read_and_write_again(0), Err(OUT_OF_RANGE));
-    assert_eq!(read_and_write_again(0x4C16_CF02), Err(OUT_OF_RANGE), "minute 60");
-    assert_eq!(read_and_write_again(0x8000_0000), Err(NOT_A_RECORD), "a filler");
-    assert_eq!(read_and_write_again(WORD), Ok(RECORD));
-    assert_eq!(read_and_write_again(0x4C16_C8BE), Ok(Record { offset: -2, ..RECORD }));
-    let midnight = Record { hour: 0, minute: 0, offset: 0, ..RECORD };
-    assert_eq!(read_and_write_again(0x4C16_0000), Ok(midnight));
+    for (edition, nothing_set, first_bit_set) in [
+        (Edition::Of1984, OUT_OF_RANGE, NOT_A_RECORD),
+        (Edition::Of1982, NOT_A_RECORD, OUT_OF_RANGE),
+    ] {
+        let read = |word| read_and_write_again(edition, word);
+        assert_eq!(read(0), Err(nothing_set), "{edition:?}");
+        assert_eq!(read(0x8000_0000), Err(first_bit_set), "{edition:?}");
+        assert_eq!(read(0x4C16_CF02), Err(OUT_OF_RANGE), "minute 60");
+        assert_eq!(read(WORD), Ok(RECORD));
+        assert_eq!(read(0x4C16_C8BE), Ok(Record { offset: -2, ..RECORD }));
+        let midnight = Record { hour: 0, minute: 0, offset: 0, ..RECORD };
+        assert_eq!(read(0x4C16_0000), Ok(midnight));
+    }
+}
+
+/// All values of the six bits that decide it, with others behind them: those that
+/// the 1982 specification expects in a filler, and a record's own.
+#[test]
+fn which_words_are_fillers() {
+    for six in 0..64 {
+        for others in [0, 0x2AA_AAAA, 0x155_5555, 0x3FF_FFFF, WORD & 0x3FF_FFFF, 1, 1 << 25] {
+            let word = six << 26 | others;
+            let refusals = EDITIONS.map(|edition| read_and_write_again(edition, word).err());
+            let fillers = refusals.map(|refusal| refusal == Some(NOT_A_RECORD));
+            assert_eq!(fillers, [six >= 32, six == 0], "{word:#x}");
+            if six >= 32 {
+                assert_eq!(refusals[1], Some(OUT_OF_RANGE), "a set first bit, {word:#x}");
+            }
+        }
+    }
 }
 
 #[test]
@@ -55,39 +80,50 @@ fn the_ends_of_every_range() {
         Record { leap: 0, start_day: 1, week: 1, weekday: 1, hour: 0, minute: 0, offset: -32 };
     let last =
         Record { leap: 3, start_day: 7, week: 53, weekday: 7, hour: 23, minute: 59, offset: 31 };
-    assert_eq!(write_and_read_again(first), Ok(STARTS[1]));
-    assert_eq!(write_and_read_again(last), Ok(STARTS[2]));
-    for beyond in [Record { week: 54, ..last }, Record { offset: 32, ..last }] {
-        assert_eq!(writing_record(beyond), Err(OUT_OF_RANGE));
+    for edition in EDITIONS {
+        assert_eq!(write_and_read_again(edition, first), Ok(STARTS[1]));
+        assert_eq!(write_and_read_again(edition, last), Ok(STARTS[2]));
+        for beyond in [
+            Record { week: 54, ..last },
+            Record { offset: 32, ..last },
+            Record { offset: -33, ..first },
+        ] {
+            assert_eq!(writing_record(edition, beyond), Err(OUT_OF_RANGE));
+        }
     }
-    assert_eq!(writing_record(Record { offset: -33, ..first }), Err(OUT_OF_RANGE));
 }
 
 #[test]
 fn only_code_0_holds_a_record() {
-    for word in STARTS {
-        for code in 1..=255 {
-            assert_eq!(reading_record(code, word), Err(NOT_A_RECORD));
+    for edition in EDITIONS {
+        for word in STARTS {
+            for code in 1..=255 {
+                assert_eq!(reading_record(edition, code, word), Err(NOT_A_RECORD));
+            }
         }
     }
+}
+
+/// The word with every value of two of its fields.
+fn two_fields_changed(word: u32) -> impl Iterator<Item = u32> {
+    let all = |width: u32| (1 << width) - 1;
+    let pairs = FIELDS.into_iter().flat_map(|field| FIELDS.map(|other| (field, other)));
+    pairs.flat_map(move |((low, width), (other_low, other_width))| {
+        let kept = word & !(all(width) << low | all(other_width) << other_low);
+        (0..=all(width)).flat_map(move |value| {
+            (0..=all(other_width)).map(move |other| kept | value << low | other << other_low)
+        })
+    })
 }
 
 #[test]
 fn every_value_of_two_fields_of_a_word() {
     assert_eq!(FIELDS.iter().map(|(_, width)| width).sum::<u32>(), u32::BITS);
     let mut count = 0;
-    for start in STARTS {
-        for (low, width) in FIELDS {
-            for (other_low, other_width) in FIELDS {
-                let all = |width: u32| (1 << width) - 1;
-                let kept = start & !(all(width) << low | all(other_width) << other_low);
-                for value in 0..=all(width) {
-                    for other in 0..=all(other_width) {
-                        let _ = read_and_write_again(kept | value << low | other << other_low);
-                        count += 1;
-                    }
-                }
-            }
+    for edition in EDITIONS {
+        for word in STARTS.into_iter().flat_map(two_fields_changed) {
+            let _ = read_and_write_again(edition, word);
+            count += 1;
         }
     }
     println!("words with two fields changed: {count} compared");
@@ -97,26 +133,33 @@ fn every_value_of_two_fields_of_a_word() {
 fn words_from_all_over() {
     // A step without a factor in common with any field's room.
     const STEP: usize = 1_021;
-    let mut refusals = [0; 7];
-    for word in (0..=u32::MAX).step_by(STEP) {
-        refusals[usize::from(read_and_write_again(word).err().unwrap_or(0))] += 1;
+    for edition in EDITIONS {
+        let mut refusals = [0; 7];
+        for word in (0..=u32::MAX).step_by(STEP) {
+            refusals[usize::from(read_and_write_again(edition, word).err().unwrap_or(0))] += 1;
+        }
+        // Half are fillers in 1984 and one in 64 is in 1982. About half of those
+        // with a first bit 0 are records.
+        let all: usize = refusals.iter().sum();
+        let [records, others @ .., fillers, out_of_range] = refusals;
+        let share = if edition == Edition::Of1984 { 2 } else { 64 };
+        assert!(fillers.abs_diff(all / share) <= all / 1_000, "{edition:?}: {refusals:?}");
+        assert!(records.min(out_of_range) > all / 5, "{edition:?}: {refusals:?}");
+        assert_eq!(others, [0; 4], "{edition:?}");
+        println!("words from all over: {all} compared, {edition:?}");
     }
-    // Half are fillers; near half of the others are records.
-    let all: usize = refusals.iter().sum();
-    assert_eq!(
-        refusals.map(|count| count > all / 5),
-        [true, false, false, false, false, true, true]
-    );
-    println!("words from all over: {all} compared");
 }
 
 #[test]
 fn every_value_of_two_fields_of_a_record() {
     let mut count = 0;
-    for bytes in STARTS[..3].iter().filter_map(|&word| reading_record(0, word).ok()) {
-        for changed in fields::two_changed(bytes.bytes()) {
-            let _ = write_and_read_again(Record::of_bytes(changed));
-            count += 1;
+    for edition in EDITIONS {
+        for word in &STARTS[..3] {
+            let record = reading_record(edition, 0, *word).expect("a record");
+            for changed in fields::two_changed(record.bytes()) {
+                let _ = write_and_read_again(edition, Record::of_bytes(changed));
+                count += 1;
+            }
         }
     }
     println!("records with two fields changed, written: {count} compared");
@@ -128,11 +171,36 @@ fn ten_million_random_words_and_records() {
     let mut random = Random::named("records");
     for _ in 0..COUNT {
         let number = random.number();
-        let _ = read_and_write_again(number as u32);
-        let _ = reading_record((number >> 32) as u8, number as u32);
         let record = random.record();
-        assert!(write_and_read_again(record).is_ok());
-        let _ = writing_record(Record::of_bytes(random.with_any_byte(record.bytes())));
+        let changed = Record::of_bytes(random.with_any_byte(record.bytes()));
+        for edition in EDITIONS {
+            let _ = read_and_write_again(edition, number as u32);
+            let _ = reading_record(edition, (number >> 32) as u8, number as u32);
+            assert!(write_and_read_again(edition, record).is_ok());
+            let _ = writing_record(edition, changed);
+        }
     }
     report("random words and records", COUNT);
+}
+
+/// The words that differ by one in the six bits after the code, and those that
+/// differ in one bit.
+fn neighbours(word: u32) -> impl Iterator<Item = u32> {
+    let by_one = [1 << 26, u32::MAX << 26].map(|step| word.wrapping_add(step));
+    by_one.into_iter().chain((0..u32::BITS).map(move |bit| word ^ 1 << bit))
+}
+
+#[test]
+fn ten_million_random_words_and_their_neighbours() {
+    const COUNT: usize = 10_000_000;
+    let mut random = Random::named("neighbours");
+    for _ in 0..COUNT {
+        let word = random.number() as u32;
+        for word in neighbours(word).chain([word]) {
+            for edition in EDITIONS {
+                let _ = reading_record(edition, 0, word);
+            }
+        }
+    }
+    report("random words of code 0, each with 34 neighbours", COUNT);
 }

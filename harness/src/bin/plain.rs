@@ -1,9 +1,10 @@
 //! Writes what the test generator must write for YEAR MONTH DAY HOUR MINUTE
-//! OFFSET MINUTES, each a number.
+//! OFFSET MINUTES, each a number, in the edition of 1984.
 
 use harness::face::Date;
 use harness::feeds::plain;
 use harness::independent::calendar::record_of_date;
+use harness::independent::Edition;
 
 fn main() {
     let numbers: Vec<i32> = std::env::args()
@@ -21,6 +22,7 @@ fn main() {
         minute: minute as u8,
         offset: offset as i8,
     };
-    let record = record_of_date(date).expect("a date that has a record");
-    print!("{}", plain(record, minutes as usize));
+    let edition = Edition::Of1984;
+    let record = record_of_date(edition, date).expect("a date that has a record");
+    print!("{}", plain(edition, record, minutes as usize));
 }

@@ -1,12 +1,14 @@
 //! The receiver program of document 01 by the independent receiver: what this
-//! prints, the product's program must print.
+//! prints, the product's program must print. No line depends on a record, so that
+//! any edition will do.
 
 use std::io::{self, Read};
 
 use harness::independent::receiver::History;
+use harness::independent::Edition;
 
 fn main() -> io::Result<()> {
-    let mut history = History::fresh();
+    let mut history = History::fresh(Edition::Of1984);
     let mut locked = false;
     for byte in io::stdin().lock().bytes() {
         match byte? {

@@ -3,8 +3,10 @@
 
 use harness::face::Record;
 use harness::feeds::{Sender, MINUTE};
-use harness::independent::{bits_of, block, record, BLOCK};
+use harness::independent::{bits_of, block, record, Edition, BLOCK};
 use harness::random::Random;
+
+const EDITION: Edition = Edition::Of1984;
 
 /// Sent twice, this has a good window twelve bits after its start.
 const REPEATED: (u8, u32) = (15, 0x8500_0000);
@@ -13,8 +15,8 @@ fn main() {
     let mut random = Random::fixed();
 
     // 1 January 1986, 12:34. The first bits are missed, and one bit arrives wrong.
-    let first = record::read(0, 0x4C16_C882).expect("a record");
-    let mut sender = Sender(first);
+    let first = record::read(EDITION, 0, 0x4C16_C882).expect("a record");
+    let mut sender = Sender::of(EDITION, first);
     let mut feed = sender.minutes(&mut random, 3);
     feed[40 * BLOCK + 20] ^= 1;
     show(&feed[13..BLOCK]);
@@ -34,7 +36,7 @@ fn main() {
 
     // Another feed: 28 December 1986, 23:58, and the first week of 1987.
     let last = Record { week: 52, weekday: 7, hour: 23, minute: 58, offset: -2, ..first };
-    let feed = Sender(last).minutes(&mut random, 4);
+    let feed = Sender::of(EDITION, last).minutes(&mut random, 4);
     let (whole, broken) = feed.split_at(3 * MINUTE * BLOCK);
     show(whole);
 

@@ -21,8 +21,8 @@ pub struct PackedState {
 
 extern "C" {
     fn lw_fresh_packed() -> PackedState;
-    fn lw_feed_packed(state: *mut PackedState, bit: u8) -> Counts;
-    fn lw_run_packed(state: *mut PackedState, bits: *const u8, len: usize) -> Counts;
+    fn lw_feed_packed(edition: u16, state: *mut PackedState, bit: u8) -> Counts;
+    fn lw_run_packed(edition: u16, state: *mut PackedState, bits: *const u8, len: usize) -> Counts;
 }
 
 // As with blocks, references stand behind the pointers.
@@ -33,11 +33,11 @@ pub fn fresh_packed() -> PackedState {
 }
 
 /// Feeds one bit.
-pub fn feed_packed(state: &mut PackedState, bit: u8) -> Counts {
-    unsafe { lw_feed_packed(state, bit) }
+pub fn feed_packed(edition: u16, state: &mut PackedState, bit: u8) -> Counts {
+    unsafe { lw_feed_packed(edition, state, bit) }
 }
 
 /// Feeds a slice of bits.
-pub fn run_packed(state: &mut PackedState, bits: &[u8]) -> Counts {
-    unsafe { lw_run_packed(state, bits.as_ptr(), bits.len()) }
+pub fn run_packed(edition: u16, state: &mut PackedState, bits: &[u8]) -> Counts {
+    unsafe { lw_run_packed(edition, state, bits.as_ptr(), bits.len()) }
 }

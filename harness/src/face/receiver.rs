@@ -53,7 +53,7 @@ pub struct Counts {
 }
 
 impl Counts {
-    /// What a refusal with 9 or 10 gives: all counts and the remainder are 0.
+    /// What a refusal with 6, 9 or 10 gives: all counts and the remainder are 0.
     pub fn refused(refusal: u8) -> Self {
         Counts { refusal, ..Counts::default() }
     }
@@ -61,8 +61,8 @@ impl Counts {
 
 extern "C" {
     fn lw_fresh() -> State;
-    fn lw_feed(state: *mut State, bit: u8) -> Counts;
-    fn lw_run(state: *mut State, bits: *const u8, len: usize) -> Counts;
+    fn lw_feed(edition: u16, state: *mut State, bit: u8) -> Counts;
+    fn lw_run(edition: u16, state: *mut State, bits: *const u8, len: usize) -> Counts;
 }
 
 // As with blocks, references stand behind the pointers.
@@ -73,11 +73,11 @@ pub fn fresh() -> State {
 }
 
 /// Feeds one bit.
-pub fn feed(state: &mut State, bit: u8) -> Counts {
-    unsafe { lw_feed(state, bit) }
+pub fn feed(edition: u16, state: &mut State, bit: u8) -> Counts {
+    unsafe { lw_feed(edition, state, bit) }
 }
 
 /// Feeds a slice of bits.
-pub fn run(state: &mut State, bits: &[u8]) -> Counts {
-    unsafe { lw_run(state, bits.as_ptr(), bits.len()) }
+pub fn run(edition: u16, state: &mut State, bits: &[u8]) -> Counts {
+    unsafe { lw_run(edition, state, bits.as_ptr(), bits.len()) }
 }

@@ -100,36 +100,37 @@ impl From<Result<Date, u8>> for Dated {
 }
 
 extern "C" {
-    fn lw_read_record(code: u8, word: u32) -> Recorded;
-    fn lw_write_record(record: Record) -> Word;
-    fn lw_date_of_record(record: Record, first_year: u16) -> Dated;
-    fn lw_record_of_date(date: Date) -> Recorded;
-    fn lw_next_minute(record: Record) -> Recorded;
+    fn lw_read_record(edition: u16, code: u8, word: u32) -> Recorded;
+    fn lw_write_record(edition: u16, record: Record) -> Word;
+    fn lw_date_of_record(edition: u16, record: Record, first_year: u16) -> Dated;
+    fn lw_record_of_date(edition: u16, date: Date) -> Recorded;
+    fn lw_next_minute(edition: u16, record: Record) -> Recorded;
 }
 
-// Everything below goes by value, and the library answers any value.
+// Everything below goes by value, and the library answers any value, any number
+// for an edition too.
 
 /// Reads the record in a block's code and word.
-pub fn read_record(code: u8, word: u32) -> Recorded {
-    unsafe { lw_read_record(code, word) }
+pub fn read_record(edition: u16, code: u8, word: u32) -> Recorded {
+    unsafe { lw_read_record(edition, code, word) }
 }
 
 /// The word of a record.
-pub fn write_record(record: Record) -> Word {
-    unsafe { lw_write_record(record) }
+pub fn write_record(edition: u16, record: Record) -> Word {
+    unsafe { lw_write_record(edition, record) }
 }
 
 /// The date of a record within the 28 coded years from `first_year` on.
-pub fn date_of_record(record: Record, first_year: u16) -> Dated {
-    unsafe { lw_date_of_record(record, first_year) }
+pub fn date_of_record(edition: u16, record: Record, first_year: u16) -> Dated {
+    unsafe { lw_date_of_record(edition, record, first_year) }
 }
 
 /// The record of a date.
-pub fn record_of_date(date: Date) -> Recorded {
-    unsafe { lw_record_of_date(date) }
+pub fn record_of_date(edition: u16, date: Date) -> Recorded {
+    unsafe { lw_record_of_date(edition, date) }
 }
 
 /// The record of the minute after a record's own.
-pub fn next_minute(record: Record) -> Recorded {
-    unsafe { lw_next_minute(record) }
+pub fn next_minute(edition: u16, record: Record) -> Recorded {
+    unsafe { lw_next_minute(edition, record) }
 }

@@ -1,6 +1,6 @@
 //! The calendar by walking: one day after the other from 1 January 1900, a
 //! Monday, and by ISO 8601 one week after the other. Nothing here is found by a
-//! formula.
+//! formula. The editions share the walk, and each has its leap codes.
 
 use std::collections::HashMap;
 use std::iter::successors;
@@ -8,6 +8,7 @@ use std::ops::RangeInclusive;
 use std::sync::LazyLock;
 
 use super::record::{in_range, time_in_range};
+use super::{Edition, EDITIONS};
 use crate::face::{Date, Record};
 use crate::refusals::{NOT_IN_YEAR, OUT_OF_RANGE, WRONG_YEAR};
 
@@ -24,15 +25,15 @@ pub const FIRST_YEARS: RangeInclusive<u16> = 1901..=2072;
 const FIRST: Date = Date { year: 1900, month: 1, day: 1, hour: 0, minute: 0, offset: 0 };
 
 /// A day of the walk, with the year of its week. Its date and what would be its
-/// record are those of 00:00 with offset 0.
+/// record, the leap code apart, are those of 00:00 with offset 0.
 struct Day {
     date: Date,
     coded_year: u16,
-    record: Record,
+    told: Record,
 }
 
-/// The four numbers by which a record names a day of a year.
-type Place = (u8, u8, u8, u8);
+/// An edition, and the four numbers by which its records name a day of a year.
+type Place = (Edition, u8, u8, u8, u8);
 
 /// The walked days, by their dates and, where they have records, by their places.
 struct Calendar {
@@ -50,8 +51,9 @@ static CALENDAR: LazyLock<Calendar> = LazyLock::new(|| {
     let mut by_place: HashMap<Place, Vec<usize>> = HashMap::new();
     for (index, day) in days.iter().enumerate() {
         by_date.insert((day.date.year, day.date.month, day.date.day), index);
-        if day.has_record() {
-            by_place.entry(place(&day.record)).or_default().push(index);
+        for edition in EDITIONS.into_iter().filter(|_| day.has_record()) {
+            let place = place(edition, &day.record(edition));
+            by_place.entry(place).or_default().push(index);
         }
     }
     Calendar { days, by_date, by_place }
@@ -61,6 +63,19 @@ impl Day {
     fn has_record(&self) -> bool {
         CODED_YEARS.contains(&self.coded_year)
     }
+
+    fn record(&self, edition: Edition) -> Record {
+        Record { leap: leap_code(edition, self.coded_year), ..self.told }
+    }
+}
+
+/// The code that says whether this year, the last one or the next is leap. Only
+/// here 1900 and 2100 count as leap, so that 1901 and 2099 have such a neighbour.
+fn leap_code(edition: Edition, year: u16) -> u8 {
+    let leap = |year| is_leap(year) || [1900, 2100].contains(&year);
+    let neighbours = [year, year - 1, year + 1].map(leap);
+    let place = neighbours.into_iter().position(|leap| leap);
+    edition.leap_codes()[place.unwrap_or(neighbours.len())]
 }
 
 fn day_after(date: Date) -> Date {
@@ -73,12 +88,16 @@ fn day_after(date: Date) -> Date {
     }
 }
 
-/// The days of a month, with the whole rule for leap years.
-fn length_of(month: u8, year: u16) -> u8 {
+/// The whole rule for leap years.
+fn is_leap(year: u16) -> bool {
     let by = |count| year.is_multiple_of(count);
-    let leap = by(4) && (!by(100) || by(400));
+    by(4) && (!by(100) || by(400))
+}
+
+/// The days of a month.
+fn length_of(month: u8, year: u16) -> u8 {
     match month {
-        2 if leap => 29,
+        2 if is_leap(year) => 29,
         2 => 28,
         4 | 6 | 9 | 11 => 30,
         _ => 31,
@@ -91,19 +110,17 @@ fn in_weeks(dates: &[Date]) -> Vec<Day> {
     let weeks = dates.chunks_exact(7);
     let start_days = start_days(weeks.clone());
     let mut days = Vec::new();
-    // 1900 counts as a leap year, so that 1901 is one after it.
     let mut coded_year = 0;
-    let mut told = Record { leap: 3, ..Record::default() };
+    let mut told = Record::default();
     for week in weeks {
         if let Some(fourth) = week.iter().find(|date| (date.month, date.day) == (1, 4)) {
             coded_year = fourth.year;
-            told.leap = if told.leap == 3 { 0 } else { told.leap + 1 };
             told.start_day = start_days[&coded_year];
             told.week = 1;
         } else {
             told.week += 1;
         }
-        let day = |(weekday, &date)| Day { date, coded_year, record: Record { weekday, ..told } };
+        let day = |(weekday, &date)| Day { date, coded_year, told: Record { weekday, ..told } };
         days.extend((1..).zip(week).map(day));
     }
     days
@@ -116,13 +133,13 @@ fn start_days<'a>(weeks: impl Iterator<Item = &'a [Date]>) -> HashMap<u16, u8> {
     first_days.map(|(date, weekday)| (date.year, weekday)).collect()
 }
 
-fn place(record: &Record) -> Place {
-    (record.leap, record.start_day, record.week, record.weekday)
+fn place(edition: Edition, record: &Record) -> Place {
+    (edition, record.leap, record.start_day, record.week, record.weekday)
 }
 
 /// The days, as places in the walk, that a record can mean.
-fn days_of(record: &Record) -> Option<&'static [usize]> {
-    CALENDAR.by_place.get(&place(record)).map(Vec::as_slice)
+fn days_of(edition: Edition, record: &Record) -> Option<&'static [usize]> {
+    CALENDAR.by_place.get(&place(edition, record)).map(Vec::as_slice)
 }
 
 /// The place in the walk of a date's day.
@@ -131,21 +148,23 @@ fn day_of(date: Date) -> Option<usize> {
 }
 
 /// Whether the fields are in range and the year has the week.
-pub fn usable(record: &Record) -> bool {
-    in_range(record) && days_of(record).is_some()
+pub fn usable(edition: Edition, record: &Record) -> bool {
+    in_range(record) && days_of(edition, record).is_some()
 }
 
 /// The date of a record within the 28 coded years from `first_year` on, or the
 /// refusal.
-pub fn date_of_record(record: Record, first_year: u16) -> Result<Date, u8> {
+pub fn date_of_record(edition: Edition, record: Record, first_year: u16) -> Result<Date, u8> {
     if !FIRST_YEARS.contains(&first_year) {
         return Err(WRONG_YEAR);
     }
     if !in_range(&record) {
         return Err(OUT_OF_RANGE);
     }
-    let mut days = days_of(&record).ok_or(NOT_IN_YEAR)?.iter().map(|&at| &CALENDAR.days[at]);
+    let days = days_of(edition, &record).ok_or(NOT_IN_YEAR)?;
     let day = days
+        .iter()
+        .map(|&at| &CALENDAR.days[at])
         .find(|day| (first_year..first_year + 28).contains(&day.coded_year))
         .expect("any 28 successive years hold a year of each kind");
     let Record { hour, minute, offset, .. } = record;
@@ -153,7 +172,7 @@ pub fn date_of_record(record: Record, first_year: u16) -> Result<Date, u8> {
 }
 
 /// The record of a date, or the refusal.
-pub fn record_of_date(date: Date) -> Result<Record, u8> {
+pub fn record_of_date(edition: Edition, date: Date) -> Result<Record, u8> {
     let Date { year, hour, minute, offset, .. } = date;
     if !CIVIL_YEARS.contains(&year) {
         return Err(WRONG_YEAR);
@@ -166,28 +185,28 @@ pub fn record_of_date(date: Date) -> Result<Record, u8> {
     if !day.has_record() {
         return Err(WRONG_YEAR);
     }
-    Ok(Record { hour, minute, offset, ..day.record })
+    Ok(Record { hour, minute, offset, ..day.record(edition) })
 }
 
 /// The record of the minute after a record's own, or the refusal.
-pub fn next_minute(record: Record) -> Result<Record, u8> {
+pub fn next_minute(edition: Edition, record: Record) -> Result<Record, u8> {
     if !in_range(&record) {
         return Err(OUT_OF_RANGE);
     }
     // Any year of its kind will do. The first one has years behind it.
-    let at = days_of(&record).ok_or(NOT_IN_YEAR)?[0];
+    let at = days_of(edition, &record).ok_or(NOT_IN_YEAR)?[0];
     if record.minute < 59 {
         return Ok(Record { minute: record.minute + 1, ..record });
     }
     if record.hour < 23 {
         return Ok(Record { hour: record.hour + 1, minute: 0, ..record });
     }
-    Ok(Record { offset: record.offset, ..CALENDAR.days[at + 1].record })
+    Ok(Record { offset: record.offset, ..CALENDAR.days[at + 1].record(edition) })
 }
 
 /// The next minute taken so many times, or the refusal.
-pub fn minutes_later(record: Record, count: usize) -> Result<Record, u8> {
-    (0..count).try_fold(record, |told, _| next_minute(told))
+pub fn minutes_later(edition: Edition, record: Record, count: usize) -> Result<Record, u8> {
+    (0..count).try_fold(record, |told, _| next_minute(edition, told))
 }
 
 /// Every day of the civil years, at 00:00 with offset 0.

@@ -2,7 +2,7 @@
 //! history tells.
 
 use super::packed::{pack, unpack};
-use super::{receiver, BLOCK};
+use super::{receiver, Edition, BLOCK};
 use crate::face::{PackedState, State};
 
 /// The packed layout of a state, unless one of its fifty places holds no bit.
@@ -24,14 +24,15 @@ fn holding(state: &PackedState, waiting: u8, bits: [u8; BLOCK]) -> State {
     State { mode, good, bad, waiting, bits, time, record, age }
 }
 
-/// Whether a packed state is proper: the waiting bits lie in place 49 and below
-/// it, no other place is in use, and the rest is as in any proper state.
-pub fn is_proper(state: &PackedState) -> bool {
+/// Whether a packed state is proper under an edition: the waiting bits lie in
+/// place 49 and below it, no other place is in use, and the rest is as in any
+/// proper state.
+pub fn is_proper(edition: Edition, state: &PackedState) -> bool {
     let waiting = state.waiting.into();
     let mut outside = (0..64).filter(|&place| !in_use(place, waiting));
     waiting < BLOCK
         && outside.all(|place| state.bits >> place & 1 == 0)
-        && receiver::is_proper(&holding(state, 0, [0; BLOCK]))
+        && receiver::is_proper(edition, &holding(state, 0, [0; BLOCK]))
 }
 
 /// Whether one of so many waiting bits lies in this place.

@@ -1,7 +1,7 @@
 //! The receiver as a history: every bit ever heard is kept, and mode, time,
 //! counts and remainder are read off the places where blocks ended in it.
 
-use super::{calendar, read, record, Fault, BLOCK};
+use super::{calendar, read, record, Edition, Fault, BLOCK};
 use crate::face::{Counts, Record, State, CANDIDATE, CONFIRMED, HUNTING, LOCKED, NO_TIME, TRYING};
 use crate::refusals::{NOT_A_BIT, RUN_TOO_LONG, WRONG_CHECK_WORD, WRONG_PREFIX};
 
@@ -22,6 +22,14 @@ pub const HELD: usize = 4;
 
 /// Good, or bad in some way.
 type Verdict = Result<(), Fault>;
+
+/// How a receiver takes time blocks.
+#[derive(Clone, Copy)]
+struct Rules {
+    edition: Edition,
+    /// Minutes for which a time is held.
+    held: usize,
+}
 
 /// A search for blocks, which begins where the one before was given up.
 #[derive(Default)]
@@ -79,16 +87,16 @@ impl Search {
         (age < held * MINUTE).then_some((time, age))
     }
 
-    /// Takes in the block whose fifty bits these are, where a time is held for
-    /// so many minutes.
-    fn judge(&mut self, bits: &[u8], held: usize) {
+    /// Takes in the block whose fifty bits these are.
+    fn judge(&mut self, bits: &[u8], rules: Rules) {
         let place = self.blocks.len();
         let read = read(bits);
         self.blocks.push(read.map(drop));
-        let record = read.ok().and_then(|(code, word)| record::read(code, word).ok());
-        if let Some(record) = record.filter(calendar::usable) {
+        let edition = rules.edition;
+        let record = read.ok().and_then(|(code, word)| record::read(edition, code, word).ok());
+        if let Some(record) = record.filter(|record| calendar::usable(edition, record)) {
             if place >= LOCKING {
-                let confirmed = self.confirmed_by(place, &record, held);
+                let confirmed = self.confirmed_by(place, &record, rules);
                 self.times.push(Time { block: place, record, confirmed });
             }
         }
@@ -97,12 +105,12 @@ impl Search {
     /// Whether the usable time block before this one is some whole minutes older,
     /// at most as many as a time is held, and tells a time just as many minutes
     /// earlier. The offset may change.
-    fn confirmed_by(&self, place: usize, record: &Record, held: usize) -> bool {
+    fn confirmed_by(&self, place: usize, record: &Record, rules: Rules) -> bool {
         self.times.last().is_some_and(|earlier| {
             let told = Record { offset: earlier.record.offset, ..*record };
-            (1..=held).any(|minutes| {
+            (1..=rules.held).any(|minutes| {
                 earlier.block + minutes * MINUTE == place
-                    && calendar::minutes_later(earlier.record, minutes) == Ok(told)
+                    && calendar::minutes_later(rules.edition, earlier.record, minutes) == Ok(told)
             })
         })
     }
@@ -112,24 +120,24 @@ impl Search {
 pub struct History {
     bits: Vec<u8>,
     searches: Vec<Search>,
-    /// Minutes for which a time is held.
-    held: usize,
+    rules: Rules,
 }
 
 impl History {
     /// Nothing heard yet.
-    pub fn fresh() -> Self {
-        History::holding_for(HELD)
+    pub fn fresh(edition: Edition) -> Self {
+        History::holding_for(edition, HELD)
     }
 
     /// Nothing heard yet, by a receiver that holds a time for so many minutes.
-    pub fn holding_for(held: usize) -> Self {
-        History { bits: Vec::new(), searches: vec![Search::default()], held }
+    pub fn holding_for(edition: Edition, held: usize) -> Self {
+        let rules = Rules { edition, held };
+        History { bits: Vec::new(), searches: vec![Search::default()], rules }
     }
 
     /// A history, made up, that ends in this proper state. Of blocks long past
     /// only the verdict matters, so their bits are left 0.
-    pub fn leading_to(state: &State) -> Self {
+    pub fn leading_to(edition: Edition, state: &State) -> Self {
         let mut search = Search::default();
         match state.mode {
             TRYING => search.blocks = vec![Ok(()); state.good.into()],
@@ -147,7 +155,7 @@ impl History {
         search.start = (state.mode != HUNTING).then_some(0);
         let mut bits = vec![0; search.blocks.len() * BLOCK];
         bits.extend(&state.bits[..state.waiting.into()]);
-        History { bits, searches: vec![search], held: HELD }
+        History { bits, searches: vec![search], ..History::fresh(edition) }
     }
 
     /// How many bits were heard.
@@ -177,7 +185,7 @@ impl History {
             Some(start) if !(heard - start).is_multiple_of(BLOCK) => return,
             Some(_) => {}
         }
-        search.judge(&self.bits[window..], self.held);
+        search.judge(&self.bits[window..], self.rules);
         if search.is_given_up() {
             self.searches.push(Search { from: heard, ..Search::default() });
         }
@@ -237,7 +245,7 @@ impl History {
             state.mode = TRYING;
             state.good = search.blocks.len() as u8;
         }
-        if let Some((time, age)) = search.time(self.held) {
+        if let Some((time, age)) = search.time(self.rules.held) {
             state.time = if time.confirmed { CONFIRMED } else { CANDIDATE };
             state.record = time.record;
             state.age = age as u8;
@@ -253,8 +261,8 @@ fn last_told(blocks: &[Verdict]) -> Option<u16> {
     told.next().map(|fault| fault.remainder)
 }
 
-/// Whether a state is proper.
-pub fn is_proper(state: &State) -> bool {
+/// Whether a state is proper under an edition, which must have the held record.
+pub fn is_proper(edition: Edition, state: &State) -> bool {
     let counted = match state.mode {
         HUNTING => (state.good, state.bad) == (0, 0),
         TRYING => matches!((state.good, state.bad), (1..=2, 0)),
@@ -264,7 +272,7 @@ pub fn is_proper(state: &State) -> bool {
     let timed = match state.time {
         NO_TIME => (state.record, state.age) == (Record::default(), 0),
         CANDIDATE | CONFIRMED => {
-            state.mode == LOCKED && state.age <= 119 && calendar::usable(&state.record)
+            state.mode == LOCKED && state.age <= 119 && calendar::usable(edition, &state.record)
         }
         _ => false,
     };

@@ -1,6 +1,7 @@
 //! The record's word as a number whose digits are the fields: each counts in
 //! steps as large as all the values that the fields behind it have room for.
 
+use super::Edition;
 use crate::face::Record;
 use crate::refusals::{NOT_A_RECORD, OUT_OF_RANGE};
 
@@ -23,7 +24,7 @@ pub fn time_in_range(hour: u8, minute: u8, offset: i8) -> bool {
 }
 
 /// The record of a code and a word, or the refusal.
-pub fn read(code: u8, word: u32) -> Result<Record, u8> {
+pub fn read(edition: Edition, code: u8, word: u32) -> Result<Record, u8> {
     let mut rest = word;
     let mut digits = [0; ROOM.len()];
     for (digit, room) in digits.iter_mut().zip(ROOM).rev() {
@@ -31,20 +32,20 @@ pub fn read(code: u8, word: u32) -> Result<Record, u8> {
         rest /= room;
     }
     let [flag, leap, start_day, week, weekday, hour, minute, offset] = digits;
-    if code != 0 || flag != 0 {
+    if code != 0 || edition.is_filler(word >> 26) {
         return Err(NOT_A_RECORD);
     }
     // The upper half of the offset's values stands for those below zero.
     let offset = if offset < 32 { offset as i8 } else { offset as i8 - 64 };
     let record = Record { leap, start_day, week, weekday, hour, minute, offset };
-    if in_range(&record) {
+    if flag == 0 && in_range(&record) {
         Ok(record)
     } else {
         Err(OUT_OF_RANGE)
     }
 }
 
-/// The word of a record, or the refusal.
+/// The word of a record, or the refusal; the edition changes neither.
 pub fn write(record: Record) -> Result<u32, u8> {
     if !in_range(&record) {
         return Err(OUT_OF_RANGE);

@@ -3,11 +3,11 @@
 
 use harness::face::{Counts, PackedState, State, HUNTING, LOCKED};
 use harness::independent::packed_state::{is_proper, packed, unpacked};
-use harness::independent::receiver::{self, RUN};
-use harness::independent::{remainder, BLOCK, GENERATOR, PREFIX};
-use harness::refusals::{IMPROPER, NOT_A_BIT, RUN_TOO_LONG};
+use harness::independent::receiver;
+use harness::independent::{remainder, Edition, BLOCK, GENERATOR, PREFIX};
+use harness::refusals::NOT_A_BIT;
 
-use crate::standing::{count, tell, Said, Standing};
+use crate::standing::{admitted, count, tell, Said, Standing};
 
 /// What the first of fifty bits put into the register.
 const FIRST: u64 = remainder(PREFIX);
@@ -63,14 +63,15 @@ impl Window {
 }
 
 pub struct Circuit {
+    edition: Edition,
     window: Window,
     standing: Standing,
 }
 
 impl Circuit {
-    /// From a proper state.
-    pub fn of(state: &PackedState) -> Self {
-        Circuit { window: Window::of(state), standing: Standing::of_packed(state) }
+    /// From a state that is proper under the edition.
+    pub fn of(edition: Edition, state: &PackedState) -> Self {
+        Circuit { edition, window: Window::of(state), standing: Standing::of_packed(state) }
     }
 
     pub fn state(&self) -> PackedState {
@@ -99,21 +100,19 @@ impl Circuit {
         if first == 1 {
             tell(self.window.register as u16, counts);
         }
-        self.standing = self.standing.after(good.then_some(self.window.said()));
+        self.standing = self.standing.after(self.edition, good.then_some(self.window.said()));
         self.window = Window::default();
         true
     }
 }
 
-pub fn run(state: &mut PackedState, bits: &[u8]) -> Counts {
-    if bits.len() > RUN {
-        return Counts::refused(RUN_TOO_LONG);
-    }
-    if !is_proper(state) {
-        return Counts::refused(IMPROPER);
-    }
+pub fn run(edition: u16, state: &mut PackedState, bits: &[u8]) -> Counts {
+    let edition = match admitted(edition, state, bits, is_proper) {
+        Ok(edition) => edition,
+        Err(refused) => return refused,
+    };
     let mut counts = Counts::default();
-    let mut circuit = Circuit::of(state);
+    let mut circuit = Circuit::of(edition, state);
     for &bit in bits {
         if bit > 1 {
             counts.refusal = NOT_A_BIT;
@@ -127,15 +126,12 @@ pub fn run(state: &mut PackedState, bits: &[u8]) -> Counts {
 }
 
 /// The same on the fifty-byte state, which is packed before and unpacked behind.
-pub fn run_fifty_bytes(state: &mut State, bits: &[u8]) -> Counts {
-    if bits.len() > RUN {
-        return Counts::refused(RUN_TOO_LONG);
-    }
-    if !receiver::is_proper(state) {
-        return Counts::refused(IMPROPER);
+pub fn run_fifty_bytes(edition: u16, state: &mut State, bits: &[u8]) -> Counts {
+    if let Err(refused) = admitted(edition, state, bits, receiver::is_proper) {
+        return refused;
     }
     let mut number = packed(state).expect("places that hold bits");
-    let counts = run(&mut number, bits);
+    let counts = run(edition, &mut number, bits);
     *state = unpacked(&number).expect("fifty bits");
     counts
 }

@@ -3,10 +3,12 @@
 //! slice. The state's fifty places are filled only with what is left over.
 
 use harness::face::{Counts, State, HUNTING};
-use harness::independent::{bits_of, remainder, BLOCK, GENERATOR, PREFIX};
+use harness::independent::receiver::is_proper;
+use harness::independent::{bits_of, remainder, Edition, BLOCK, GENERATOR, PREFIX};
 use harness::refusals::NOT_A_BIT;
 
-use crate::stepwise::{refused, take};
+use crate::standing::admitted;
+use crate::stepwise::take;
 use crate::table;
 
 /// What the remainder of a good window is: that of its prefix alone.
@@ -15,10 +17,11 @@ const GOOD: u64 = remainder(PREFIX);
 /// What a bit that leaves the window takes with it.
 const LEAVING: u64 = remainder(PREFIX << 1);
 
-pub fn run(state: &mut State, bits: &[u8]) -> Counts {
-    if let Some(counts) = refused(state, bits) {
-        return counts;
-    }
+pub fn run(edition: u16, state: &mut State, bits: &[u8]) -> Counts {
+    let edition = match admitted(edition, state, bits, is_proper) {
+        Ok(edition) => edition,
+        Err(refused) => return refused,
+    };
     let mut counts = Counts::default();
     let mut left = bits;
     if bits.iter().fold(0, |all, bit| all | bit) > 1 {
@@ -28,8 +31,8 @@ pub fn run(state: &mut State, bits: &[u8]) -> Counts {
     }
     while !left.is_empty() {
         left = match state.mode {
-            HUNTING => hunt(state, left, &mut counts),
-            _ => take_block(state, left, &mut counts),
+            HUNTING => hunt(edition, state, left, &mut counts),
+            _ => take_block(edition, state, left, &mut counts),
         };
     }
     counts.waiting = state.waiting.into();
@@ -37,7 +40,7 @@ pub fn run(state: &mut State, bits: &[u8]) -> Counts {
 }
 
 /// Goes on hunting up to a good window, and gives what is left behind it.
-fn hunt<'a>(state: &mut State, bits: &'a [u8], counts: &mut Counts) -> &'a [u8] {
+fn hunt<'a>(edition: Edition, state: &mut State, bits: &'a [u8], counts: &mut Counts) -> &'a [u8] {
     let mut waiting = usize::from(state.waiting);
     let mut window = state.bits[..waiting].iter().fold(0, |all, &bit| all << 1 | u64::from(bit));
     let mut fault = remainder(window);
@@ -52,7 +55,7 @@ fn hunt<'a>(state: &mut State, bits: &'a [u8], counts: &mut Counts) -> &'a [u8] 
             continue;
         }
         if fault == GOOD && window & PREFIX != 0 {
-            take(state, table::read(&bits_of(window)), counts);
+            take(edition, state, table::read(&bits_of(window)), counts);
             return &bits[place + 1..];
         }
         waiting -= 1;
@@ -66,18 +69,23 @@ fn hunt<'a>(state: &mut State, bits: &'a [u8], counts: &mut Counts) -> &'a [u8] 
 }
 
 /// Fills up one block, if there are bits enough, and gives what is left.
-fn take_block<'a>(state: &mut State, bits: &'a [u8], counts: &mut Counts) -> &'a [u8] {
+fn take_block<'a>(
+    edition: Edition,
+    state: &mut State,
+    bits: &'a [u8],
+    counts: &mut Counts,
+) -> &'a [u8] {
     let waiting = usize::from(state.waiting);
     let (part, left) = bits.split_at((BLOCK - waiting).min(bits.len()));
     if part.len() == BLOCK {
-        take(state, table::read(part), counts);
+        take(edition, state, table::read(part), counts);
         return left;
     }
     state.bits[waiting..][..part.len()].copy_from_slice(part);
     state.waiting += part.len() as u8;
     if usize::from(state.waiting) == BLOCK {
         let read = table::read(&state.bits);
-        take(state, read, counts);
+        take(edition, state, read, counts);
     }
     left
 }

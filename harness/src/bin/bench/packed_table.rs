@@ -4,21 +4,18 @@
 
 use harness::face::{Counts, PackedState, HUNTING};
 use harness::independent::packed_state::is_proper;
-use harness::independent::receiver::RUN;
-use harness::independent::BLOCK;
-use harness::refusals::{IMPROPER, NOT_A_BIT, RUN_TOO_LONG};
+use harness::independent::{Edition, BLOCK};
+use harness::refusals::NOT_A_BIT;
 
 use crate::circuit::Circuit;
-use crate::standing::{count_read, Standing};
+use crate::standing::{admitted, count_read, Standing};
 use crate::table_number;
 
-pub fn run(state: &mut PackedState, bits: &[u8]) -> Counts {
-    if bits.len() > RUN {
-        return Counts::refused(RUN_TOO_LONG);
-    }
-    if !is_proper(state) {
-        return Counts::refused(IMPROPER);
-    }
+pub fn run(edition: u16, state: &mut PackedState, bits: &[u8]) -> Counts {
+    let edition = match admitted(edition, state, bits, is_proper) {
+        Ok(edition) => edition,
+        Err(refused) => return refused,
+    };
     let mut counts = Counts::default();
     let mut left = bits;
     if bits.iter().fold(0, |all, bit| all | bit) > 1 {
@@ -28,8 +25,8 @@ pub fn run(state: &mut PackedState, bits: &[u8]) -> Counts {
     }
     while !left.is_empty() {
         left = match state.mode {
-            HUNTING => hunt(state, left, &mut counts),
-            _ => take_block(state, left, &mut counts),
+            HUNTING => hunt(edition, state, left, &mut counts),
+            _ => take_block(edition, state, left, &mut counts),
         };
     }
     counts.waiting = state.waiting.into();
@@ -37,10 +34,15 @@ pub fn run(state: &mut PackedState, bits: &[u8]) -> Counts {
 }
 
 /// Goes on hunting up to a good window, and gives what is left behind it.
-fn hunt<'a>(state: &mut PackedState, bits: &'a [u8], counts: &mut Counts) -> &'a [u8] {
+fn hunt<'a>(
+    edition: Edition,
+    state: &mut PackedState,
+    bits: &'a [u8],
+    counts: &mut Counts,
+) -> &'a [u8] {
     // A copy, which the loop may keep in registers.
     let mut counted = *counts;
-    let mut circuit = Circuit::of(state);
+    let mut circuit = Circuit::of(edition, state);
     let mut heard = 0;
     for &bit in bits {
         heard += 1;
@@ -54,7 +56,12 @@ fn hunt<'a>(state: &mut PackedState, bits: &'a [u8], counts: &mut Counts) -> &'a
 }
 
 /// Fills up one block, if there are bits enough, and gives what is left.
-fn take_block<'a>(state: &mut PackedState, bits: &'a [u8], counts: &mut Counts) -> &'a [u8] {
+fn take_block<'a>(
+    edition: Edition,
+    state: &mut PackedState,
+    bits: &'a [u8],
+    counts: &mut Counts,
+) -> &'a [u8] {
     let waiting = usize::from(state.waiting);
     let (part, left) = bits.split_at((BLOCK - waiting).min(bits.len()));
     let waits = waiting + part.len();
@@ -65,7 +72,7 @@ fn take_block<'a>(state: &mut PackedState, bits: &'a [u8], counts: &mut Counts) 
         return left;
     }
     let good = count_read(table_number::read(number), counts);
-    *state = Standing::of_packed(state).after(good).with_number(0, 0);
+    *state = Standing::of_packed(state).after(edition, good).with_number(0, 0);
     left
 }
 

@@ -12,7 +12,7 @@ use harness::program::{output, product};
 
 use crate::circuit::Circuit;
 use crate::contest::{best_times, show};
-use crate::receiver::{clean_feed, random_bits};
+use crate::receiver::{clean_feed, random_bits, EDITION};
 
 /// The argument that turns this program into the receiver by hand.
 pub const BY_HAND: &str = "receive";
@@ -83,7 +83,7 @@ fn tell_end(fed: u64, counts: Counts, waiting: u8) {
 
 /// The receiver program by hand.
 pub fn receive() -> io::Result<()> {
-    let mut circuit = Circuit::of(&PackedState::default());
+    let mut circuit = Circuit::of(EDITION, &PackedState::default());
     let mut counts = Counts::default();
     let mut fed = 0;
     let mut locked = false;

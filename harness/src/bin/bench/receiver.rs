@@ -7,13 +7,16 @@ use std::time::{Duration, Instant};
 use harness::face::{self, Counts, PackedState, State};
 use harness::feeds::{Sender, MINUTE};
 use harness::independent::receiver::RUN;
-use harness::independent::BLOCK;
+use harness::independent::{Edition, BLOCK};
 use harness::random::Random;
 
 use crate::contest::{best_times, show};
 use crate::{circuit, in_place, packed_table, stepwise};
 
-type Runner<S> = fn(&mut S, &[u8]) -> Counts;
+type Runner<S> = fn(u16, &mut S, &[u8]) -> Counts;
+
+/// That of every feed here.
+pub const EDITION: Edition = Edition::Of1984;
 
 const NAMES: [&str; 4] = ["product", "stepwise", "in place", "circuit"];
 const RUNNERS: [Runner<State>; 4] =
@@ -70,7 +73,7 @@ pub fn random_bits(len: usize) -> Vec<u8> {
 
 pub fn clean_feed(len: usize) -> Vec<u8> {
     let mut random = Random::named("clean feed");
-    let mut sender = Sender(random.usable_record());
+    let mut sender = Sender::any(EDITION, &mut random);
     let mut feed = sender.minutes(&mut random, len.div_ceil(MINUTE * BLOCK));
     feed.truncate(len);
     feed
@@ -86,7 +89,7 @@ fn run_all<'a, S>(
     let mut counts = Vec::with_capacity(2 * LENGTHS[3] / RUN);
     let start = Instant::now();
     for piece in strings.into_iter().flat_map(|string| string.chunks(RUN)) {
-        counts.push(run(&mut state, piece));
+        counts.push(run(EDITION.number(), &mut state, piece));
     }
     (start.elapsed(), (counts, state))
 }

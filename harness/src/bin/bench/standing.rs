@@ -1,10 +1,12 @@
-//! What a receiver by hand knows beside its waiting bits, and what a block that
-//! was used up does to it.
+//! What a receiver by hand knows beside its waiting bits, what it refuses, and
+//! what a block that was used up does to it.
 
 use harness::face::{
     Block, Counts, PackedState, Record, State, CANDIDATE, CONFIRMED, LOCKED, NO_TIME, TRYING,
 };
-use harness::independent::{record, BLOCK};
+use harness::independent::receiver::RUN;
+use harness::independent::{record, Edition, BLOCK};
+use harness::refusals::{IMPROPER, RUN_TOO_LONG};
 
 use crate::clock;
 
@@ -52,10 +54,12 @@ impl Standing {
     /// one. By value and never inlined, so that a loop over bits may keep all it
     /// works on in registers.
     #[inline(never)]
-    pub fn after(self, read: Option<Said>) -> Self {
+    pub fn after(self, edition: Edition, read: Option<Said>) -> Self {
         match (self.mode, read) {
-            (LOCKED, Some(_)) => Standing { bad: 0, ..self.offered(read) },
-            (LOCKED, None) if self.bad < 3 => Standing { bad: self.bad + 1, ..self.offered(read) },
+            (LOCKED, Some(_)) => Standing { bad: 0, ..self.offered(edition, read) },
+            (LOCKED, None) if self.bad < 3 => {
+                Standing { bad: self.bad + 1, ..self.offered(edition, read) }
+            }
             (_, None) => Standing::default(),
             (_, Some(_)) if self.good == 2 => Standing { mode: LOCKED, ..Standing::default() },
             (_, Some(_)) => Standing { mode: TRYING, good: self.good + 1, ..self },
@@ -63,12 +67,12 @@ impl Standing {
     }
 
     /// The block as it is offered to the time.
-    fn offered(self, read: Option<Said>) -> Self {
+    fn offered(self, edition: Edition, read: Option<Said>) -> Self {
         let age = self.age + u8::from(self.time != NO_TIME);
-        if let Some(record) = read.and_then(usable) {
+        if let Some(record) = read.and_then(|said| usable(edition, said)) {
             let held = Record { offset: record.offset, ..self.record };
-            let confirmed =
-                matches!(age, 30 | 60 | 90 | 120) && clock::minutes_later(held, age / 30) == record;
+            let confirmed = matches!(age, 30 | 60 | 90 | 120)
+                && clock::minutes_later(edition, held, age / 30) == record;
             let time = if confirmed { CONFIRMED } else { CANDIDATE };
             Standing { time, record, age: 0, ..self }
         } else if age == 120 {
@@ -76,6 +80,23 @@ impl Standing {
         } else {
             Standing { age, ..self }
         }
+    }
+}
+
+/// The edition of a run, or what the run is refused with before its first bit.
+pub fn admitted<S>(
+    edition: u16,
+    state: &S,
+    bits: &[u8],
+    is_proper: fn(Edition, &S) -> bool,
+) -> Result<Edition, Counts> {
+    let edition = Edition::named(edition).map_err(Counts::refused)?;
+    if bits.len() > RUN {
+        Err(Counts::refused(RUN_TOO_LONG))
+    } else if !is_proper(edition, state) {
+        Err(Counts::refused(IMPROPER))
+    } else {
+        Ok(edition)
     }
 }
 
@@ -104,6 +125,7 @@ pub fn count_read(read: Block, counts: &mut Counts) -> Option<Said> {
 }
 
 /// What a usable time block tells.
-fn usable(said: Said) -> Option<Record> {
-    record::read(said.code, said.word).ok().filter(clock::usable)
+fn usable(edition: Edition, said: Said) -> Option<Record> {
+    let record = record::read(edition, said.code, said.word).ok();
+    record.filter(|record| clock::usable(edition, record))
 }

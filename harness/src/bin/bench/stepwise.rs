@@ -2,35 +2,25 @@
 //! places of the state, and these are judged where they stand.
 
 use harness::face::{Block, Counts, State, HUNTING};
-use harness::independent::receiver::{is_proper, RUN};
-use harness::independent::BLOCK;
-use harness::refusals::{IMPROPER, NOT_A_BIT, RUN_TOO_LONG};
+use harness::independent::receiver::is_proper;
+use harness::independent::{Edition, BLOCK};
+use harness::refusals::NOT_A_BIT;
 
-use crate::standing::{count_read, Standing};
+use crate::standing::{admitted, count_read, Standing};
 use crate::table;
 
-/// Whether a run is refused before its first bit, and with what.
-pub fn refused(state: &State, bits: &[u8]) -> Option<Counts> {
-    if bits.len() > RUN {
-        Some(Counts::refused(RUN_TOO_LONG))
-    } else if !is_proper(state) {
-        Some(Counts::refused(IMPROPER))
-    } else {
-        None
-    }
-}
-
-pub fn run(state: &mut State, bits: &[u8]) -> Counts {
-    if let Some(counts) = refused(state, bits) {
-        return counts;
-    }
+pub fn run(edition: u16, state: &mut State, bits: &[u8]) -> Counts {
+    let edition = match admitted(edition, state, bits, is_proper) {
+        Ok(edition) => edition,
+        Err(refused) => return refused,
+    };
     let mut counts = Counts::default();
     for &bit in bits {
         if bit > 1 {
             counts.refusal = NOT_A_BIT;
             break;
         }
-        step(state, bit, &mut counts);
+        step(edition, state, bit, &mut counts);
     }
     counts.waiting = state.waiting.into();
     counts
@@ -38,15 +28,15 @@ pub fn run(state: &mut State, bits: &[u8]) -> Counts {
 
 /// One bit, 0 or 1, to a proper state.
 #[inline]
-fn step(state: &mut State, bit: u8, counts: &mut Counts) {
+fn step(edition: Edition, state: &mut State, bit: u8, counts: &mut Counts) {
     state.bits[usize::from(state.waiting)] = bit;
     state.waiting += 1;
     if usize::from(state.waiting) == BLOCK {
-        judge(state, counts);
+        judge(edition, state, counts);
     }
 }
 
-fn judge(state: &mut State, counts: &mut Counts) {
+fn judge(edition: Edition, state: &mut State, counts: &mut Counts) {
     let hunting = state.mode == HUNTING;
     // Half of all windows fail at their first bit, without a division.
     if hunting && state.bits[0] == 0 {
@@ -56,7 +46,7 @@ fn judge(state: &mut State, counts: &mut Counts) {
     if hunting && read.refusal != 0 {
         pass_over(state, counts);
     } else {
-        take(state, read, counts);
+        take(edition, state, read, counts);
     }
 }
 
@@ -69,7 +59,7 @@ fn pass_over(state: &mut State, counts: &mut Counts) {
 
 /// Takes in a block that was used up and left nothing waiting. While hunting it
 /// is a good one.
-pub fn take(state: &mut State, read: Block, counts: &mut Counts) {
+pub fn take(edition: Edition, state: &mut State, read: Block, counts: &mut Counts) {
     let good = count_read(read, counts);
-    *state = Standing::of(state).after(good).with_bytes(0, [0; BLOCK]);
+    *state = Standing::of(state).after(edition, good).with_bytes(0, [0; BLOCK]);
 }
