@@ -1,4 +1,5 @@
 -- Damage: a good block that is changed at some of its places is refused, for four kinds of change; and what it tells, for every change.
+-- A block is refused before a record is looked for in it, so demand 3 knows no edition (02, No. 3).
 -- Assumes nothing.
 use mathlib.Core.Bool.{Bool, cond}
 use mathlib.Core.List.{List, [], _∷_}

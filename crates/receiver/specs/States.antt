@@ -1,4 +1,5 @@
--- The receiver's state, and when it is proper (01, "Hunting, trying, locked").
+-- The receiver's state, and when it is proper (01, "Hunting, trying, locked"). It does not know its edition, and is judged by that of
+-- the call (02, No. 3).
 -- Assumes nothing.
 use Prim.Native.Nat.{ℕ, zero, suc}
 use mathlib.Core.Bool.{Bool, true, _&&_}

@@ -1,5 +1,5 @@
--- When a time is proper: it is none, or holds a usable record at an age of 0 to 119 (01, "Hunting, trying, locked"; 02,
--- No. 5).
+-- When a time is proper: it is none, or holds at an age of 0 to 119 a record that is usable in the edition of the call (01,
+-- "Hunting, trying, locked"; 02, No. 3 and No. 5).
 -- Assumes nothing.
 use mathlib.Core.Bool.{Bool, true, false, cond, _&&_}
 use lib.Dec.{eqb, leb, ltb}

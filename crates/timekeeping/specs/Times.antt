@@ -1,4 +1,4 @@
--- The time: held, aged, confirmed and forgotten (01, "Hunting, trying, locked"; 02, No. 5).
+-- The time: held, aged, confirmed and forgotten (01, "Hunting, trying, locked"; 02, No. 5), with records read in an edition (No. 3).
 -- Assumes nothing.
 use Prim.Native.Nat.{ℕ, _+_, _/_, _%_}
 use mathlib.Core.Bool.{Bool, false, cond, _&&_}
