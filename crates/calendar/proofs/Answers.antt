@@ -24,7 +24,7 @@ use Rattle.calendar.proofs.CodedYear.{coded-near}
 not-dated : (why : Refusal) (d : Date) → dated.Refused why ≡ dated.Given d → ⊥
 not-dated why d e = let z : _≡_ {A = ℕ} 0 1 = cc in omega arith
 
--- ---- the record of a date
+-- ---- dates that can be coded
 
 -- a date in range whose week's year can be coded
 pub record InCalendar (d : Date) : Type 0 where
@@ -59,6 +59,8 @@ module _ (edition : Edition) where
   pub usable-is : (r : Record) → Usable r → usableOf edition r ≡ recorded.Given r
   unfolding usableOf
   usable-is r u = rw (u .in-range, le-leb (r .week) (weeksIn edition r) (u .in-year))
+
+  -- ---- the record of a date
 
   pub record-is : (d : Date) → InCalendar d → recordOf edition d ≡ recorded.Given (recordAt edition d)
   unfolding recordOf

@@ -1,6 +1,6 @@
 -- What a year's leap code and start day mean, inside the calendar: the codes of each edition in the words of its document.
 -- Assumes nothing.
-use Prim.Native.Nat.{ℕ, zero, suc, _+_, _-_, _%_, _≤_, _<_}
+use Prim.Native.Nat.{ℕ, _+_, _-_, _%_, _≤_, _<_}
 use native.Mathlib.Omega.{arith}
 use mathlib.Core.Path.{_≡_, refl, sym, _∙_}
 use mathlib.Core.Bool.{Bool, true, false, not, _||_}
@@ -11,7 +11,7 @@ use Rattle.record.specs.declared.Edition.the-variants.{Of1984, Of1982}
 use Rattle.calendar.specs.LeapCodes.{leapCode}
 use Rattle.calendar.specs.Years.{firstYear, lastYear, leapYear, weekdayAfter, startDay}
 use Rattle.calendar.proofs.Years.{leap-four, start-range}
-use Rattle.calendar.proofs.LeapCodes.{same-code, code-again}
+use Rattle.calendar.proofs.LeapCodes.{of-four, same-code, code-again}
 
 -- the code where this year is leap, where last year was, where next year is, and where none of the three is
 pub record Codes : Type 0 where
@@ -37,14 +37,6 @@ same-test a b c d f g = by (eqb c d) refl
     by true e = eq-eqb a b (g (eqb-true c d e))
     by false e = ne-eqb a b (λ p. eqb-false c d e (f p))
 
--- of four numbers, 2 is the one that is none of the others
-two-is : (n : ℕ) → n < 4 → eqb n 2 ≡ not (eqb n 1 || (eqb n 0 || eqb n 3))
-two-is zero h = refl
-two-is (suc zero) h = refl
-two-is (suc (suc zero)) h = refl
-two-is (suc (suc (suc zero))) h = refl
-two-is (suc (suc (suc (suc n)))) h = absurd (omega arith)
-
 module _ (edition : Edition) (y : ℕ) (a : firstYear ≤ y) (b : y ≤ lastYear) where
   code-is : (k : ℕ) → eqb (leapCode edition y) (leapCode edition k) ≡ eqb (y % 4) (k % 4)
   code-is k = same-test _ _ (y % 4) (k % 4) (same-code edition y k) (code-again edition y k)
@@ -67,7 +59,8 @@ module _ (edition : Edition) (y : ℕ) (a : firstYear ≤ y) (b : y ≤ lastYear
   -- where all three are in the calendar
   pub code-rest : firstYear < y → y < lastYear → eqb (leapCode edition y) (codesIn edition .rest) ≡ not (leapYear (y - 1) || (leapYear y || leapYear (y + 1)))
   code-rest h k =
-      rw (← code-last h, ← code-this, ← code-next k, of-years edition, code-is 0, code-is 1, code-is 2, code-is 3) (two-is (y % 4) (omega arith))
+      rw (← code-last h, ← code-this, ← code-next k, of-years edition, code-is 0, code-is 1, code-is 2, code-is 3)
+      (of-four (λ n. eqb n 2 ≡ not (eqb n 1 || (eqb n 0 || eqb n 3))) refl refl refl refl (y % 4) (omega arith))
 
 -- the start day is the weekday of 8 January too
 pub eighth : (y : ℕ) → weekdayAfter 7 (startDay y) ≡ startDay y

@@ -18,7 +18,7 @@ sinceLeap Of1984 code = code
 sinceLeap Of1982 code = getD (2 ∷ 3 ∷ 1 ∷ 0 ∷ []) code 0
 
 -- what holds of 0 to 3
-of-four : (P : ℕ → Type 0) → P 0 → P 1 → P 2 → P 3 → (n : ℕ) → n ≤ 3 → P n
+pub of-four : (P : ℕ → Type 0) → P 0 → P 1 → P 2 → P 3 → (n : ℕ) → n ≤ 3 → P n
 of-four P a b c d zero h = a
 of-four P a b c d (suc zero) h = b
 of-four P a b c d (suc (suc zero)) h = c

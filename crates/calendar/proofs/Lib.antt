@@ -1,4 +1,5 @@
--- The laws, in reading order: years and their leap codes, months and weeks, the coded year, what an answer says, then what the calls promise together, and how the editions correspond.
+-- The laws, in reading order: years and their leap codes, months and weeks, the coded year, what an answer says, then what the calls
+-- promise together, and how the editions correspond.
 pub mod Choice
 pub mod Years
 pub mod LeapCodes
