@@ -1,10 +1,10 @@
 -- The limits: each witness is written out, and the checker computes that it is taken.
 -- Assumes nothing.
-use mathlib.Core.List.{List, [], _∷_, _++_}
+use mathlib.Core.List.{List, _∷_, _++_}
 use mathlib.Core.Path.{_≡_, refl, ap, _∙_}
 use Prim.Native.Nat.{ℕ, zero, suc, _+_, _*_, _≤_}
 use native.Mathlib.Omega.{arith}
-use lib.ListN.{replicate, take, drop}
+use lib.ListN.{replicate, take, drop, length-replicate}
 use Rattle.block.specs.Bits.{bitsOf, valueFrom, xors, zeros}
 use Rattle.block.specs.Block.{blockOf, bodyOf}
 use Rattle.block.specs.Division.{generator, remainderFrom}
@@ -16,7 +16,7 @@ use Rattle.detection.specs.Damage.{Changed}
 use Rattle.detection.specs.Slips.{Message, sent, window}
 use Rattle.detection.specs.Limits.{FourTaken, FourteenTaken, EightAfterTaken, SevenBeforeTaken, FalseLock}
 use Rattle.detection.proofs.Places.{changed-lt}
-use Rattle.detection.proofs.Seams.{joint, skip}
+use Rattle.detection.proofs.Seams.{length-sent, repeats}
 
 -- ---- damage: the block of code 0 and word 0, changed
 
@@ -90,10 +90,11 @@ turned-reads : readOf turned ≡ Block 0 0xda7c000
 unfolding turned readOf blockOf bodyOf bitsOf valueFrom remainderFrom
 turned-reads = refl
 
-turns : (n : ℕ) → window (sent (replicate (suc (suc n)) repeated)) (50 * n + 28) ≡ turned
+turns : (n : ℕ) → window (sent (replicate (n + 2) repeated)) (50 * n + 28) ≡ turned
 unfolding turned repeated
-turns zero = joint (blockOf 0 0x5d00) (blockOf 0 0x5d00) [] 28 (omega arith) (written-good 0 0x5d00 .size) (written-good 0 0x5d00 .size)
-turns (suc n) = skip repeated (replicate (suc (suc n)) repeated) (50 * n + 28) (50 * suc n + 28) (omega arith) ∙ turns n
+turns n =
+    repeats repeated (n + 2) 28 (50 * n + 28) (omega arith) (omega arith)
+    (omega (arith, length-sent (replicate (n + 2) repeated), length-replicate (n + 2) repeated))
 
 pub false-lock : FalseLock
 false-lock =
@@ -101,10 +102,5 @@ false-lock =
       message = repeated;
       slip = 28;
       inside = omega arith;
-      taken = λ n. let e : n + 2 ≡ suc (suc n) = omega arith in
-          record {
-            code = 0;
-            word = 0xda7c000;
-            reads = ap readOf (ap (λ (m : ℕ). window (sent (replicate m repeated)) (50 * n + 28)) e ∙ turns n) ∙ turned-reads;
-          };
+      taken = λ n. record { code = 0; word = 0xda7c000; reads = ap readOf (turns n) ∙ turned-reads };
     }

@@ -2,9 +2,10 @@
 -- Assumes nothing.
 use mathlib.Core.List.{List, [], _∷_, _++_}
 use mathlib.Core.Path.{_≡_, refl, sym, ap, _∙_, subst}
-use Prim.Native.Nat.{ℕ, zero, suc, _+_, _*_, _<_, _≤_}
+use Prim.Native.Nat.{ℕ, zero, suc, _+_, _-_, _*_, _%_, _<_, _≤_}
+use native.Mathlib.Decide.{decLe}
 use native.Mathlib.Omega.{arith}
-use lib.ListN.{length, take, drop, length-append, length-take, length-drop}
+use lib.ListN.{length, take, drop, replicate, length-append, length-take, length-drop}
 use lib.Seq.{take-append-le, take-append-add, drop-append-le, drop-append-add}
 use Rattle.block.specs.Bits.{Bits}
 use Rattle.block.specs.Block.{Good, blockOf}
@@ -35,6 +36,24 @@ skip m ms k start e =
     let x : List ℕ = blockOf (m .code) (m .word) in
     let z : start ≡ length x + k = omega (arith, written m .size) in
     ap (take 50) (ap (λ (n : ℕ). drop n (sent (m ∷ ms))) z ∙ drop-append-add x (sent ms) k)
+
+pub length-sent : (messages : List Message) → length (sent messages) ≡ 50 * length messages
+length-sent [] = omega arith
+length-sent (m ∷ ms) = length-append (blockOf (m .code) (m .word)) (sent ms) ∙ omega (arith, written m .size, length-sent ms)
+
+-- where one message is repeated, every window that starts d bits after a start holds the end of its block and then the beginning
+pub repeats : (m : Message) (times d start : ℕ) → start % 50 ≡ d → 1 ≤ d → start + 50 ≤ length (sent (replicate times m))
+    → window (sent (replicate times m)) start ≡ drop d (blockOf (m .code) (m .word)) ++ take d (blockOf (m .code) (m .word))
+repeats m zero d start e p h = absurd (omega arith)
+repeats m (suc zero) d start e p h = absurd (omega (arith, length-append (blockOf (m .code) (m .word)) [], written m .size))
+repeats m (suc (suc times)) d start e p h =
+    let x : List ℕ = blockOf (m .code) (m .word) in
+    elim (decLe 50 start) [
+      | yes l ↦ skip m (replicate (suc times) m) (start - 50) start (omega arith)
+          ∙ repeats m (suc times) d (start - 50) (omega arith) p (omega (arith, length-append x (sent (replicate (suc times) m)), written m .size))
+      | no l ↦ let z : start ≡ d = omega arith in
+          ap (window (sent (replicate (suc (suc times)) m))) z ∙ joint x x (sent (replicate times m)) d (omega arith) (written m .size) (written m .size)
+    ]
 
 pub seam : (messages : List Message) (n d start : ℕ) → start ≡ 50 * n + d → 1 ≤ d → d < 50
     → start + 50 ≤ length (sent messages) → Seam d (window (sent messages) start)

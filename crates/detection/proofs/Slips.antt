@@ -24,7 +24,7 @@ use Rattle.detection.proofs.Seams.{seam, seam-size, seam-bits}
 -- ---- after a start: before the overlap stand the block's bits from its second to the window's first, behind it the next block's first
 
 -- a good block's first bits write a large number, since the very first is a 1
-first-bits : (y : List ℕ) (k : ℕ) → Good y → k < 50 → 2 ^ k ≤ value (take (suc k) y)
+pub first-bits : (y : List ℕ) (k : ℕ) → Good y → k < 50 → 2 ^ k ≤ value (take (suc k) y)
 unfolding valueFrom
 first-bits [] k g h = absurd (omega (arith, g .size))
 first-bits (p ∷ y) k g h =
