@@ -45,11 +45,11 @@ module _ (edition : Edition) where
         (fills x′ xs (p ++ x ∷ []) q (k + 1) (omega (arith, length-append p (x ∷ []))) (omega arith) (omega arith) (h .1))
 
   -- the lock after a block that does not end it: the block goes into the run of bad ones and is offered to the time
-  abbrev offered : Lock → Read → Lock
+  abbrev pub offered : Lock → Read → Lock
   offered l w = lockOf locked 0 (badRun (l .bad) w) (offeredTo edition (l .time) (usableIn edition w))
 
   -- such a block is counted and used up
-  held : (l : Lock) (w : Read) → badRun (l .bad) w < 4 → heldOn edition (l .bad) (l .time) w ≡ record { blocks = countRead w; passed = 0; lock = offered l w }
+  pub held : (l : Lock) (w : Read) → badRun (l .bad) w < 4 → heldOn edition (l .bad) (l .time) w ≡ record { blocks = countRead w; passed = 0; lock = offered l w }
   unfolding heldOn
   held l (Block code word) h = refl
   held l (Refused why told) h = rw (lt-leb 4 (l .bad + 1) h)

@@ -38,7 +38,7 @@ use Rattle.journey.proofs.Worded.{word-fits, block-usable}
 use Rattle.journey.proofs.Fed.{feeds}
 
 module _ (kind : ℕ) (r : Record) (age : ℕ) (held : candidate ≤ kind) where
-  ages : age + 1 < 120 → agedBy (timeOf kind r age) ≡ timeOf kind r (age + 1)
+  pub ages : age + 1 < 120 → agedBy (timeOf kind r age) ≡ timeOf kind r (age + 1)
   unfolding agedBy
   ages h = rw (ne-eqb kind none (λ z. omega arith), lt-leb 120 (age + 1) h)
 
@@ -52,26 +52,26 @@ same n = eq-eqb n n refl
 module _ (edition : Edition) where
   -- ---- what a block does to the time
 
-  from-none : (t : Time) (r : Record) → t .kind ≡ none → offeredTo edition t (Given r) ≡ timeOf candidate r 0
+  pub from-none : (t : Time) (r : Record) → t .kind ≡ none → offeredTo edition t (Given r) ≡ timeOf candidate r 0
   unfolding offeredTo renewedBy
   from-none t r e = rw e
 
-  unusable-ages : (t : Time) (u : Recorded) → isGiven u ≡ false → offeredTo edition t u ≡ agedBy t
+  pub unusable-ages : (t : Time) (u : Recorded) → isGiven u ≡ false → offeredTo edition t u ≡ agedBy t
   unfolding offeredTo
   unusable-ages t (Given n) e = cc
   unusable-ages t (Refused why) e = refl
 
-  is-later : (minutes : ℕ) (r n : Record) → minutesLater edition minutes r ≡ Given n → follows edition minutes r n ≡ true
+  pub is-later : (minutes : ℕ) (r n : Record) → minutesLater edition minutes r ≡ Given n → follows edition minutes r n ≡ true
   unfolding follows sameMinute
   is-later minutes r n e = rw e (simp same)
 
-  later-confirms : (minutes kind age : ℕ) (r n : Record) → 1 ≤ minutes → minutes ≤ 4 → candidate ≤ kind → age + 1 ≡ 30 * minutes
-      → minutesLater edition minutes r ≡ Given n → offeredTo edition (timeOf kind r age) (Given n) ≡ timeOf confirmed n 0
+  pub later-confirms : (minutes kind age : ℕ) (r n : Record) → 1 ≤ minutes → minutes ≤ 4 → candidate ≤ kind → age + 1 ≡ 30 * minutes
+      → follows edition minutes r n ≡ true → offeredTo edition (timeOf kind r age) (Given n) ≡ timeOf confirmed n 0
   unfolding offeredTo renewedBy
-  later-confirms minutes kind age r n from to held whole e =
+  later-confirms minutes kind age r n from to held whole later =
       rw (
         ne-eqb kind none (λ z. omega arith),
-        confirms-exactly edition (age + 1) r n .1 (record { minutes = minutes; from = from; to = to; whole = whole; later = is-later minutes r n e }),
+        confirms-exactly edition (age + 1) r n .1 (record { minutes = minutes; from = from; to = to; whole = whole; later = later }),
       )
 
   -- ---- a time block
@@ -138,4 +138,4 @@ module _ (edition : Edition) where
         → runFrom edition (flatten (timeBlock n ∷ [])) blocks 0 (holding bad kind r age) ≡ ended 0 (plus blocks (countRead (readOf (timeBlock n)))) 0 (holding 0 confirmed n 0)
     unfolding flatten runFrom
     last-block minutes bad age n blocks from to whole u e =
-        time-feeds n (zeros 50) [] blocks (lockOf locked 0 bad (timeOf kind r age)) u refl refl ∙ rw (later-confirms minutes kind age r n from to held whole e)
+        time-feeds n (zeros 50) [] blocks (lockOf locked 0 bad (timeOf kind r age)) u refl refl ∙ rw (later-confirms minutes kind age r n from to held whole (is-later minutes r n e))

@@ -25,7 +25,7 @@ use Rattle.journey.specs.Journey.{Other, Each, badRun, LockHolds, Quiet,
 -- ---- the lock
 
 -- a good block ends the run of bad ones
-good-ends : (bad : ℕ) (v : Read) → isGood v ≡ true → badRun bad v ≡ 0
+pub good-ends : (bad : ℕ) (v : Read) → isGood v ≡ true → badRun bad v ≡ 0
 good-ends bad (Block code word) e = refl
 good-ends bad (Refused why told) e = cc
 

@@ -32,7 +32,7 @@ unusable : (edition : Edition) → isGiven (usableIn edition (Block 0 (filler ed
 unfolding usableIn
 unusable edition = rw (filler-refused edition (filler edition) (sent-filler edition))
 
-in-word : (edition : Edition) → filler edition < 2 ^ 32
+pub in-word : (edition : Edition) → filler edition < 2 ^ 32
 in-word Of1984 = omega arith
 in-word Of1982 = omega arith
 
