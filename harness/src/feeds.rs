@@ -8,6 +8,9 @@ use crate::independent::{bits_of, block, calendar, record, Edition, BLOCK};
 use crate::random::Random;
 use crate::refusals::NOT_A_RECORD;
 
+/// Bits that a transmitter sends in a second.
+pub const RATE: usize = 25;
+
 /// The time block of a record whose fields are in range.
 pub fn time_block(record: Record) -> u64 {
     block(0, record::write(record).expect("fields in range"))

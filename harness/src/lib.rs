@@ -3,8 +3,9 @@
 //! `face` calls the library, `independent` answers from the rules alone, and
 //! `compare` demands that both say the same. `changes` and `slips` list what
 //! can go wrong on the air, `fields` what can be wrong in a caller's values,
-//! `feeds` sends blocks as a transmitter does, `program` runs a receiver program,
-//! and `random` makes runs that can be repeated.
+//! `feeds` sends blocks as a transmitter does, `runs` says what is heard of blocks
+//! that come undamaged, `program` runs a receiver program, and `random` makes tests
+//! that can be repeated.
 
 pub mod changes;
 pub mod compare;
@@ -15,4 +16,5 @@ pub mod independent;
 pub mod program;
 pub mod random;
 pub mod refusals;
+pub mod runs;
 pub mod slips;

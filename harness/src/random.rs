@@ -2,7 +2,7 @@
 
 use std::env;
 
-use crate::face::{Date, Polish, Record};
+use crate::face::{Date, Polish, Record, State, CANDIDATE, CONFIRMED, LOCKED, TRYING};
 use crate::independent::polish::SYMBOLS;
 use crate::independent::{bits_of, block, calendar, Edition, BLOCK};
 
@@ -122,6 +122,26 @@ impl Random {
     pub fn usable_record(&mut self, edition: Edition) -> Record {
         let mut records = std::iter::repeat_with(|| self.record());
         records.find(|record| calendar::usable(edition, record)).expect("there is no end")
+    }
+
+    /// A proper state with nothing waiting.
+    pub fn proper_state(&mut self, edition: Edition) -> State {
+        match self.below(5) {
+            0 => State::FRESH,
+            1 => State { mode: TRYING, good: self.between(1, 2), ..State::FRESH },
+            2 => self.locked_state(),
+            _ => {
+                let time = self.between(CANDIDATE, CONFIRMED);
+                let age = self.between(0, 119);
+                let record = self.usable_record(edition);
+                State { time, record, age, ..self.locked_state() }
+            }
+        }
+    }
+
+    /// A locked state with nothing waiting and no time.
+    pub fn locked_state(&mut self) -> State {
+        State { mode: LOCKED, bad: self.between(0, 3), ..State::FRESH }
     }
 
     /// A date of 1900 to 2100. Its month may lack its day.

@@ -44,15 +44,8 @@ fn records(edition: Edition) -> [Record; 7] {
     [edition.telling(RECORD), common, leap, long, long_leap, two_left, before_week_53]
 }
 
-/// The state with the first `count` of these bits waiting.
-fn with_waiting(state: State, bits: &[u8; BLOCK], count: usize) -> State {
-    let mut state = State { waiting: count as u8, ..state };
-    state.bits[..count].copy_from_slice(&bits[..count]);
-    state
-}
-
 fn hunting(waiting: usize) -> State {
-    with_waiting(State::FRESH, &bits_of(PREFIX * 2 - 1), waiting)
+    State::FRESH.with_waiting(&[1; BLOCK][..waiting])
 }
 
 fn trying(good: u8, waiting: usize) -> State {
@@ -223,7 +216,7 @@ fn to_a_locked_receiver(
     for &sent in blocks {
         let waiting = random.below(BLOCK);
         let bits = bits_of(sent);
-        let state = with_waiting(state, &bits, waiting);
+        let state = state.with_waiting(&bits[..waiting]);
         let mut receiver = Receiver::going_on_from(edition, state);
         receiver.run(&bits[waiting..]);
         // So that what it left goes on.
@@ -319,21 +312,6 @@ fn no_week_confirms_behind_the_last_of_a_year() {
     }
 }
 
-/// A proper state with nothing waiting.
-fn random_proper_state(edition: Edition, random: &mut Random) -> State {
-    match random.below(5) {
-        0 => hunting(0),
-        1 => trying(random.between(1, 2), 0),
-        2 => locked(random.between(0, 3), 0),
-        _ => {
-            let time = random.between(CANDIDATE, CONFIRMED);
-            let age = random.between(0, 119);
-            let record = random.usable_record(edition);
-            holding(time, record, age, locked(random.between(0, 3), 0))
-        }
-    }
-}
-
 #[test]
 fn a_million_random_proper_states() {
     const COUNT: usize = 1_000_000;
@@ -342,9 +320,8 @@ fn a_million_random_proper_states() {
         for _ in 0..COUNT {
             let waiting = random.below(BLOCK);
             let bits = bits_of(random.block());
-            let state = random_proper_state(edition, &mut random);
-            let mut receiver =
-                Receiver::going_on_from(edition, with_waiting(state, &bits, waiting));
+            let state = random.proper_state(edition).with_waiting(&bits[..waiting]);
+            let mut receiver = Receiver::going_on_from(edition, state);
             receiver.run(&bits[waiting..]);
             let more = random.below(120);
             receiver.run(&random.bits(more));

@@ -39,6 +39,13 @@ impl State {
     pub const fn bytes(self) -> [u8; STATE] {
         unsafe { std::mem::transmute(self) }
     }
+
+    /// The same with these bits waiting, at most fifty.
+    pub fn with_waiting(self, bits: &[u8]) -> Self {
+        let mut state = State { waiting: bits.len() as u8, bits: [0; BLOCK], ..self };
+        state.bits[..bits.len()].copy_from_slice(bits);
+        state
+    }
 }
 
 #[repr(C)]
