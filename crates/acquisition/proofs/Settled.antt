@@ -4,12 +4,12 @@
 use Prim.Native.Nat.{ℕ, zero, suc, _+_, _-_, _*_, _%_, _≤_, _<_}
 use native.Mathlib.Nat.{add-zero}
 use native.Mathlib.Omega.{arith}
-use mathlib.Core.Path.{_≡_, refl, sym, ap, _∙_, subst}
-use mathlib.Core.Bool.{Bool, true, false, cond, and-eq-true-iff}
+use mathlib.Core.Path.{_≡_, refl, sym, ap, _∙_}
+use mathlib.Core.Bool.{true, false, cond}
 use mathlib.Core.List.{List}
 use mathlib.Core.Logic.{_⊎_, ⊎-elim}
-use borrow.Author.Tests.{eqb-true, leb-true, lt-leb}
-use lib.Dec.{eqb, leb}
+use borrow.Author.Tests.{lt-leb}
+use lib.Dec.{eqb}
 use lib.ListN.{length}
 use Rattle.block.specs.Read.{readOf}
 use Rattle.block.specs.declared.Read.{Read}
@@ -18,12 +18,10 @@ use Rattle.record.specs.declared.Edition.{Edition}
 use Rattle.record.proofs.Tests.{le-or-lt}
 use Rattle.timekeeping.specs.Times.{noTime}
 use Rattle.timekeeping.proofs.Choices.{cond-elim}
-use Rattle.timekeeping.proofs.NoTime.{zero-time}
 use Rattle.locking.specs.declared.Lock.{Lock}
 use Rattle.locking.specs.Locks.{hunting, trying, locked, lockOf, freshLock, lockProper}
 use Rattle.locking.specs.Modes.{isGood, tried, heldOn, judgedBy}
-use Rattle.locking.proofs.Choices.{held-judged}
-use Rattle.locking.proofs.NoTime.{hunting-fresh}
+use Rattle.locking.proofs.Choices.{held-judged, proper-elim}
 use Rattle.acquisition.specs.Heard.{GoodAt, NotGoodAt}
 use Rattle.acquisition.specs.Wait.{InStep}
 use Rattle.acquisition.proofs.Course.{in-step-as, afterGood, at, at-on, goods, kept, stays}
@@ -37,42 +35,19 @@ most-needed l =
     cond-elim (λ (n : ℕ). n ≤ 350) (eqb (l .mode) hunting) (λ _. omega arith)
     (λ _. cond-elim (λ (n : ℕ). n ≤ 350) (eqb (l .mode) trying) (λ _. omega arith) (λ _. omega arith))
 
+-- trying after one or two good blocks
+tries-after : (g : ℕ) → 1 ≤ g → g ≤ 2 → afterGood g ≡ lockOf trying g 0 noTime
+tries-after zero a b = absurd (omega arith)
+tries-after (suc zero) a b = refl
+tries-after (suc (suc zero)) a b = refl
+tries-after (suc (suc (suc g))) a b = absurd (omega arith)
+
 module _ (edition : Edition) where
-  -- a proper lock hunts, or tries after one or two good blocks, or is locked after at most three bad ones
-  module _ (P : Lock → Type 0) (one : P (afterGood 1)) (two : P (afterGood 2)) where
-    tries-after : (good : ℕ) → 1 ≤ good → good ≤ 2 → P (lockOf trying good 0 noTime)
-    tries-after zero a b = absurd (omega arith)
-    tries-after (suc zero) a b = one
-    tries-after (suc (suc zero)) a b = two
-    tries-after (suc (suc (suc good))) a b = absurd (omega arith)
-
-    proper-modes : (l : Lock) → lockProper edition l ≡ true → P freshLock → (l .mode ≡ locked → l .bad ≤ 3 → P l) → P l
-    unfolding lockProper
-    proper-modes l e fresh held =
-        let Q : Bool → Type 0 = λ t. t ≡ true → P l in
-        cond-elim Q (eqb (l .mode) hunting) (λ m _. subst P (sym (hunting-fresh edition l e (eqb-true (l .mode) hunting m))) fresh)
-        (λ _.
-        cond-elim Q (eqb (l .mode) trying)
-        (λ m h.
-        let from = and-eq-true-iff (leb 1 (l .good)) _ .0 h in
-        let to = and-eq-true-iff (leb (l .good) 2) _ .0 (from .1) in
-        let bad = and-eq-true-iff (eqb (l .bad) 0) _ .0 (to .1) in
-        let all : l ≡ lockOf trying (l .good) 0 noTime = rw (eqb-true (l .mode) trying m, eqb-true (l .bad) 0 (bad .0), zero-time (l .time) (bad .1)) in
-        subst P (sym all) (tries-after (l .good) (leb-true 1 (l .good) (from .0)) (leb-true (l .good) 2 (to .0))))
-        (λ _ h.
-        let m = and-eq-true-iff (eqb (l .mode) locked) _ .0 h in
-        let good = and-eq-true-iff (eqb (l .good) 0) _ .0 (m .1) in
-        held (eqb-true (l .mode) locked (m .0)) (leb-true (l .bad) 3 (and-eq-true-iff (leb (l .bad) 3) _ .0 (good .1) .0))))
-        e
-
   -- ---- a window that is not good
 
-  tried-ends : (g : ℕ) (w : Read) → 1 ≤ g → g ≤ 2 → isGood w ≡ false → judgedBy edition (afterGood g) w .lock ≡ freshLock
+  tried-ends : (g : ℕ) (w : Read) → isGood w ≡ false → judgedBy edition (lockOf trying g 0 noTime) w .lock ≡ freshLock
   unfolding judgedBy tried
-  tried-ends zero w a b e = absurd (omega arith)
-  tried-ends (suc zero) w a b e = rw e
-  tried-ends (suc (suc zero)) w a b e = rw e
-  tried-ends (suc (suc (suc g))) w a b e = absurd (omega arith)
+  tried-ends g w e = rw e
 
   fourth-ends : (l : Lock) (w : Read) → l .mode ≡ locked → l .bad ≡ 3 → isGood w ≡ false → judgedBy edition l w .lock ≡ freshLock
   unfolding heldOn
@@ -110,10 +85,10 @@ module _ (edition : Edition) where
           (stays edition v r good (k + 50 * j) d (λ i x y. other i (omega arith) (λ z. omega arith)) (omega arith) m b (omega arith))
 
       -- trying: in the right place it is counted on, in another it is over with this block
-      tried-on : (l : Lock) (g : ℕ) → l ≡ afterGood g → (l .mode ≡ hunting → ⊥) → 1 ≤ g → g ≤ 2 → d + 200 ≤ n → InStep (n - d) (at edition v l k n)
-      tried-on l g same tries a b e = ⊎-elim in-place elsewhere (le-or-lt d 0)
+      tried-on : (g : ℕ) → 1 ≤ g → g ≤ 2 → d + 200 ≤ n → InStep (n - d) (at edition v (lockOf trying g 0 noTime) k n)
+      tried-on g a b e = ⊎-elim in-place elsewhere (le-or-lt d 0)
         where
-          in-place : d ≤ 0 → InStep (n - d) (at edition v l k n)
+          in-place : d ≤ 0 → InStep (n - d) (at edition v (lockOf trying g 0 noTime) k n)
           in-place z =
               let j : ℕ = 3 - g in
               let m : ℕ = n - 50 * j in
@@ -121,17 +96,16 @@ module _ (edition : Edition) where
               let t : g + j ≡ 3 = omega arith in
               in-step-as m (n - d) (omega arith)
               (ap (λ (x : ℕ). at edition v (afterGood x) (k + 50 * j) m) (sym t) ∙ sym (goods edition v r good j g k m (omega arith) (omega arith) (omega arith))
-              ∙ ap (λ (x : Lock). at edition v x k (50 * j + m)) (sym same) ∙ ap (at edition v l k) f)
+              ∙ ap (λ (x : Lock). at edition v x k (50 * j + m)) (tries-after g a b) ∙ ap (at edition v (lockOf trying g 0 noTime) k) f)
               (kept edition v r good (afterGood 3) (k + 50 * j) m refl (omega arith) (omega arith))
 
-          elsewhere : 0 < d → InStep (n - d) (at edition v l k n)
+          elsewhere : 0 < d → InStep (n - d) (at edition v (lockOf trying g 0 noTime) k n)
           elsewhere p =
               let f : 50 + (n - 50) ≡ n = omega arith in
-              let w = readOf (window v k) in
-              let ended : judgedBy edition l w .lock ≡ freshLock =
-              ap (λ (x : Lock). judgedBy edition x w .lock) same ∙ tried-ends g w a b (other k (omega arith) (λ z. omega arith) (omega arith)) in
+              let bad = other k (omega arith) (λ z. omega arith) (omega arith) in
               in-step-as (n - d) (n - d) refl
-              (ap (λ (x : Lock). at edition v x (k + 50) (n - 50)) (sym ended) ∙ sym (at-on edition v l k (n - 50) (omega arith) (λ t. absurd (tries t))) ∙ ap (at edition v l k) f)
+              (ap (λ (x : Lock). at edition v x (k + 50) (n - 50)) (sym (tried-ends g (readOf (window v k)) bad))
+              ∙ sym (at-on edition v (lockOf trying g 0 noTime) k (n - 50) (omega arith) (λ t. absurd (omega arith))) ∙ ap (at edition v (lockOf trying g 0 noTime) k) f)
               (hunted-on 1 (n - 50) (omega arith) f (omega arith))
 
       -- locked: in the right place it is kept, in another it is lost
@@ -148,6 +122,5 @@ module _ (edition : Edition) where
 
       pub settles : (l : Lock) → lockProper edition l ≡ true → d + needs l ≤ n → InStep (n - d) (at edition v l k n)
       settles l proper =
-          proper-modes (λ (l : Lock). d + needs l ≤ n → InStep (n - d) (at edition v l k n)) (tried-on (afterGood 1) 1 refl (λ t. omega arith) (omega arith) (omega arith))
-          (tried-on (afterGood 2) 2 refl (λ t. omega arith) (omega arith) (omega arith)) l proper
-          (λ e. rw (add-zero k) at (hunted-on 0 n (omega arith) (omega arith) e)) (λ m b e. held-on l m b (rw m at e))
+          proper-elim edition (λ (l : Lock). d + needs l ≤ n → InStep (n - d) (at edition v l k n)) l proper
+          (λ e. rw (add-zero k) at (hunted-on 0 n (omega arith) (omega arith) e)) tried-on (λ bad t few _. held-on (lockOf locked 0 bad t) refl few)

@@ -1,19 +1,21 @@
--- What is shown of each answer of a judgement holds of the judgement.
+-- What is shown of each answer of a judgement holds of the judgement, and what is shown of each kind of proper lock of every one.
 -- Assumes nothing.
 use Prim.Native.Nat.{ℕ, _+_, _≤_, _<_}
-use mathlib.Core.Path.{_≡_, refl}
-use mathlib.Core.Bool.{true, false}
+use mathlib.Core.Path.{_≡_, refl, subst}
+use mathlib.Core.Bool.{Bool, true, false, and-eq-true-iff}
 use borrow.Author.Tests.{eqb-true, eqb-false, leb-true, leb-false}
 use lib.Dec.{eqb, leb}
 use Rattle.block.specs.Read.{remainderRead}
 use Rattle.block.specs.declared.Read.{Read}
 use Rattle.record.specs.declared.Edition.{Edition}
 use Rattle.timekeeping.specs.declared.Time.{Time}
+use Rattle.timekeeping.specs.Proper.{timeProper}
 use Rattle.timekeeping.specs.Times.{noTime, usableIn, offeredTo}
 use Rattle.timekeeping.proofs.Choices.{cond-elim}
+use Rattle.timekeeping.proofs.NoTime.{zero-time}
 use Rattle.locking.specs.declared.Judged.{Judged}
 use Rattle.locking.specs.declared.Lock.{Lock}
-use Rattle.locking.specs.Locks.{hunting, trying, locked, lockOf, freshLock}
+use Rattle.locking.specs.Locks.{hunting, trying, locked, lockOf, freshLock, lockProper}
 use Rattle.locking.specs.Modes.{isGood, goodBlock, badBlock, passedOver, hunted, tried, heldOn, judgedBy}
 
 module _ (edition : Edition) where
@@ -75,3 +77,33 @@ module _ (edition : Edition) where
       (λ _.
       cond-elim P (eqb (l .mode) trying) (λ _. cond-elim P (isGood w) (λ _. refl) (λ _. refl))
       (λ _. cond-elim P (isGood w) (λ _. refl) (λ _. refl)))
+
+  -- ---- proper locks
+
+  -- a proper lock is the fresh one, or tries after one or two good blocks, or is locked after at most three bad ones with a proper time
+  pub proper-elim : (P : Lock → Type 0) (l : Lock) → lockProper edition l ≡ true → P freshLock → ((good : ℕ) → 1 ≤ good → good ≤ 2 → P (lockOf trying good 0 noTime))
+      → ((bad : ℕ) (t : Time) → bad ≤ 3 → timeProper edition t ≡ true → P (lockOf locked 0 bad t)) → P l
+  unfolding lockProper
+  proper-elim P l e fresh tries held =
+      let Q : Bool → Type 0 = λ t. t ≡ true → P l in
+      cond-elim Q (eqb (l .mode) hunting)
+      (λ m h.
+      let good = and-eq-true-iff (eqb (l .good) 0) _ .0 h in
+      let bad = and-eq-true-iff (eqb (l .bad) 0) _ .0 (good .1) in
+      let all : freshLock ≡ l = rw (eqb-true (l .mode) hunting m, eqb-true (l .good) 0 (good .0), eqb-true (l .bad) 0 (bad .0), zero-time (l .time) (bad .1)) in
+      subst P all fresh)
+      (λ _.
+      cond-elim Q (eqb (l .mode) trying)
+      (λ m h.
+      let from = and-eq-true-iff (leb 1 (l .good)) _ .0 h in
+      let to = and-eq-true-iff (leb (l .good) 2) _ .0 (from .1) in
+      let bad = and-eq-true-iff (eqb (l .bad) 0) _ .0 (to .1) in
+      let all : lockOf trying (l .good) 0 noTime ≡ l = rw (eqb-true (l .mode) trying m, eqb-true (l .bad) 0 (bad .0), zero-time (l .time) (bad .1)) in
+      subst P all (tries (l .good) (leb-true 1 (l .good) (from .0)) (leb-true (l .good) 2 (to .0))))
+      (λ _ h.
+      let m = and-eq-true-iff (eqb (l .mode) locked) _ .0 h in
+      let good = and-eq-true-iff (eqb (l .good) 0) _ .0 (m .1) in
+      let bad = and-eq-true-iff (leb (l .bad) 3) _ .0 (good .1) in
+      let all : lockOf locked 0 (l .bad) (l .time) ≡ l = rw (eqb-true (l .mode) locked (m .0), eqb-true (l .good) 0 (good .0)) in
+      subst P all (held (l .bad) (l .time) (leb-true (l .bad) 3 (bad .0)) (bad .1))))
+      e

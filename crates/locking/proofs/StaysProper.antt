@@ -4,8 +4,8 @@ use Prim.Native.Nat.{ℕ, _+_, _≤_}
 use native.Mathlib.Omega.{arith}
 use mathlib.Core.Path.{_≡_, refl}
 use mathlib.Core.Bool.{true, and-eq-true-iff}
-use borrow.Author.Tests.{leb-true, le-leb, leb-false}
-use lib.Dec.{eqb, leb}
+use borrow.Author.Tests.{le-leb, leb-false}
+use lib.Dec.{leb}
 use Rattle.block.specs.declared.Read.{Read}
 use Rattle.record.specs.declared.Edition.{Edition}
 use Rattle.timekeeping.specs.declared.Time.{Time}
@@ -15,9 +15,9 @@ use Rattle.timekeeping.proofs.Choices.{cond-elim}
 use Rattle.timekeeping.proofs.StaysProper.{usable-in, time-offered}
 use Rattle.locking.specs.declared.Judged.{Judged}
 use Rattle.locking.specs.declared.Lock.{Lock}
-use Rattle.locking.specs.Locks.{hunting, trying, locked, lockProper}
+use Rattle.locking.specs.Locks.{lockProper}
 use Rattle.locking.specs.Modes.{isGood, hunted, tried, heldOn, judgedBy}
-use Rattle.locking.proofs.Choices.{held-elim}
+use Rattle.locking.proofs.Choices.{held-elim, proper-elim}
 
 module _ (edition : Edition) where
   abbrev pub Kept : Judged → Type 0
@@ -44,12 +44,6 @@ module _ (edition : Edition) where
 
   -- the lock after a window is proper where the lock before it was
   pub judged-proper : (l : Lock) (w : Read) → lockProper edition l ≡ true → Kept (judgedBy edition l w)
-  unfolding judgedBy lockProper
+  unfolding judgedBy
   judged-proper l w e =
-      cond-elim Kept (eqb (l .mode) hunting) (λ _. hunted-proper w)
-      (λ a.
-      cond-elim Kept (eqb (l .mode) trying)
-      (λ b. let p = and-eq-true-iff (leb (l .good) 2) _ .0 (and-eq-true-iff (leb 1 (l .good)) _ .0 (rw (a, b) at e) .1) in tried-proper (l .good) w (leb-true (l .good) 2 (p .0)))
-      (λ b.
-      let p = and-eq-true-iff (leb (l .bad) 3) _ .0 (and-eq-true-iff (eqb (l .good) 0) _ .0 (and-eq-true-iff (eqb (l .mode) locked) _ .0 (rw (a, b) at e) .1) .1) in
-      held-proper (l .bad) (l .time) w (leb-true (l .bad) 3 (p .0)) (p .1)))
+      proper-elim edition (λ (l : Lock). Kept (judgedBy edition l w)) l e (hunted-proper w) (λ good _ to. tried-proper good w to) (λ bad t few p. held-proper bad t w few p)
