@@ -1,8 +1,7 @@
 -- From lock to a confirmed time: each block is judged with its last bit, and until then the time is what it was; others leave none, or
 -- age the candidate, and the second time block confirms it.
 -- Assumes nothing.
-use Prim.Native.Nat.{ℕ, zero, suc, _+_, _-_, _*_, _/_, _<_}
-use native.Mathlib.Nat.{add-zero}
+use Prim.Native.Nat.{ℕ, suc, _+_, _-_, _*_, _/_, _<_}
 use native.Mathlib.Omega.{arith}
 use mathlib.Core.Bool.{true}
 use mathlib.Core.List.{List, [], _∷_, _++_, append-assoc, flatten}
@@ -28,30 +27,14 @@ use Rattle.receiver.specs.declared.State.{State}
 use Rattle.receiver.specs.States.{nothingWaits}
 use Rattle.receiver.specs.History.{afterFrom}
 use Rattle.journey.specs.Journey.{Other, Each, badRun, badRunAfter, LockHolds, holding}
+use Rattle.journey.proofs.Aging.{agedAll, none-stays, grows-older}
 use Rattle.journey.proofs.Fed.{offered, held}
-use Rattle.journey.proofs.Minutes.{ages, from-none, unusable-ages, later-confirms}
+use Rattle.journey.proofs.Minutes.{from-none, unusable-ages, later-confirms}
 use Rattle.journey.proofs.Missed.{good-ends}
 use Rattle.acquisition.specs.Wait.{justLocked}
 use Rattle.acquisition.specs.Dial.{Feed, bitsOfFeed, confirmedAfter, ConfirmedWith, EveryFeedShows}
 use Rattle.acquisition.proofs.Fed.{few, on}
 use Rattle.acquisition.proofs.Joined.{good-window}
-
--- a time that so many blocks have aged
-agedAll : Time → ℕ → Time
-agedAll t zero = t
-agedAll t (suc n) = agedAll (agedBy t) n
-
-none-stays : (n : ℕ) → agedAll noTime n ≡ noTime
-unfolding agedAll agedBy
-none-stays zero = refl
-none-stays (suc n) = none-stays n
-
-candidate-ages : (r : Record) (age n : ℕ) → age + n < 120 → agedAll (timeOf candidate r age) n ≡ timeOf candidate r (age + n)
-unfolding agedAll
-candidate-ages r age zero h = rw (add-zero age)
-candidate-ages r age (suc n) h =
-    let e : age + 1 + n ≡ age + suc n = omega arith in
-    rw (ages candidate r age (omega arith) (omega arith), ← e) (candidate-ages r (age + 1) n (omega arith))
 
 usable-good : (edition : Edition) (w : Read) (r : Record) → usableIn edition w ≡ Given r → isGood w ≡ true
 unfolding usableIn
@@ -150,7 +133,7 @@ module _ (edition : Edition) where
         let l : Lock = lockOf locked 0 (badRunAfter 0 (f .between)) (timeOf candidate (f .told) 29) in
         ap (stateAfter tells afterOne) (sym e)
         ∙ others-past (f .two ++ f .more) (f .between) 0 (timeOf candidate (f .told) 0) (50 + 0) (f .others-between) (f .holds-between)
-        ∙ rw (f .minute, candidate-ages (f .told) 0 29 (omega arith))
+        ∙ rw (f .minute, grows-older candidate (omega arith) (f .told) 0 29 (omega arith))
         (time-past l (f .two) (f .more) 0 (f .next) refl (f .two-tells)
         ∙ rw (later-confirms edition 1 candidate 29 (f .told) (f .next) (omega arith) (omega arith) (omega arith) (omega arith) (f .later)))
 
@@ -162,7 +145,7 @@ module _ (edition : Edition) where
     candidate-behind n h =
         ap (λ (s : State). s .time) (one-past n)
         ∙ others-time (f .two ++ f .more) (f .between) 0 (timeOf candidate (f .told) 0) n (f .others-between) (f .holds-between) (omega (arith, f .minute))
-        ∙ ap (λ (t : Time). t .kind) (candidate-ages (f .told) 0 (n / 50) (omega arith))
+        ∙ ap (λ (t : Time). t .kind) (grows-older candidate (omega arith) (f .told) 0 (n / 50) (omega arith))
 
     shows : ConfirmedWith edition justLocked (bitsOfFeed f) (confirmedAfter f) (f .next)
     shows =

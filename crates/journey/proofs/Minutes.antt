@@ -1,13 +1,12 @@
--- The blocks of some minutes: a usable time block makes a candidate, each other block ages what is held by one, up to the last age,
--- and the block of as many minutes later as went by confirms.
+-- The blocks of some minutes: a usable time block makes a candidate, each other block ages what is held by one, and the block of as
+-- many minutes later as went by confirms.
 -- Assumes nothing.
 use Prim.Native.Nat.{ℕ, _+_, _*_, _<_, _≤_}
-use native.Mathlib.Nat.{add-zero}
 use native.Mathlib.Omega.{arith}
 use mathlib.Core.Path.{_≡_, refl, sym, ap, _∙_}
 use mathlib.Core.Bool.{true, false}
 use mathlib.Core.List.{List, [], _∷_, _++_, append-nil, flatten}
-use borrow.Author.Tests.{eq-eqb, ne-eqb, le-leb, lt-leb}
+use borrow.Author.Tests.{eq-eqb, ne-eqb}
 use lib.Dec.{eqb}
 use lib.ListN.{length}
 use Rattle.block.specs.Bits.{zeros}
@@ -23,7 +22,7 @@ use Rattle.calendar.specs.MinutesLater.{minutesLater}
 use Rattle.calendar.proofs.Answers.{Usable}
 use Rattle.timekeeping.specs.declared.Time.{Time}
 use Rattle.timekeeping.specs.Proper.{isGiven}
-use Rattle.timekeeping.specs.Times.{none, candidate, confirmed, timeOf, noTime, usableIn, sameMinute, follows, renewedBy, agedBy, offeredTo}
+use Rattle.timekeeping.specs.Times.{none, candidate, confirmed, timeOf, usableIn, sameMinute, follows, renewedBy, agedBy, offeredTo}
 use Rattle.timekeeping.proofs.WholeMinutes.{confirms-exactly}
 use Rattle.locking.specs.declared.Blocks.{Blocks}
 use Rattle.locking.specs.declared.Lock.{Lock}
@@ -34,17 +33,9 @@ use Rattle.receiver.specs.States.{stateOf, lockIn, nothingWaits}
 use Rattle.receiver.specs.Runs.{plus, ended, runFrom}
 use Rattle.receiver.proofs.Adding.{none-plus, plus-none, plus-assoc}
 use Rattle.journey.specs.Journey.{timeBlock, Other, Each, badRun, badRunAfter, LockHolds, countRead, countBlocks, Idle, holding}
+use Rattle.journey.proofs.Aging.{agedAll}
 use Rattle.journey.proofs.Worded.{word-fits, block-usable}
 use Rattle.journey.proofs.Fed.{feeds}
-
-module _ (kind : ℕ) (r : Record) (age : ℕ) (held : candidate ≤ kind) where
-  pub ages : age + 1 < 120 → agedBy (timeOf kind r age) ≡ timeOf kind r (age + 1)
-  unfolding agedBy
-  ages h = rw (ne-eqb kind none (λ z. omega arith), lt-leb 120 (age + 1) h)
-
-  goes : 120 ≤ age + 1 → agedBy (timeOf kind r age) ≡ noTime
-  unfolding agedBy
-  goes h = rw (ne-eqb kind none (λ z. omega arith), le-leb 120 (age + 1) h)
 
 same : (n : ℕ) → eqb n n ≡ true
 same n = eq-eqb n n refl
@@ -97,42 +88,26 @@ module _ (edition : Edition) where
       ∙ time-feeds r (s .bits) [] noBlocks (lockIn s) u (i .places) (i .is-locked)
       ∙ rw (from-none (lockIn s .time) r (i .no-time)) (ap (λ (b : Blocks). ended 0 b 0 (holding 0 candidate r 0)) (none-plus (countRead (readOf (timeBlock r)))))
 
+  -- one of the others ages the time
+  one-other : (w rest : List ℕ) (blocks : Blocks) (bad : ℕ) (t : Time) → Other edition w → badRun bad (readOf w) < 4
+      → runFrom edition (w ++ rest) blocks 0 (nothingWaits (lockOf locked 0 bad t))
+      ≡ runFrom edition rest (plus blocks (countRead (readOf w))) 0 (nothingWaits (lockOf locked 0 (badRun bad (readOf w)) (agedBy t)))
+  one-other w rest blocks bad t o l =
+      feeds edition w (zeros 50) rest blocks (lockOf locked 0 bad t) (o .size) (o .bits) refl refl l
+      ∙ rw (unusable-ages t (usableIn edition (readOf w)) (o .unusable))
+
+  -- so do some, one after the other
+  pub other-blocks : (ws rest : List (List ℕ)) (blocks : Blocks) (bad : ℕ) (t : Time) → Each (Other edition) ws → LockHolds bad ws
+      → runFrom edition (flatten (ws ++ rest)) blocks 0 (nothingWaits (lockOf locked 0 bad t))
+      ≡ runFrom edition (flatten rest) (plus blocks (countBlocks ws)) 0 (nothingWaits (lockOf locked 0 (badRunAfter bad ws) (agedAll t (length ws))))
+  unfolding flatten agedAll
+  other-blocks [] rest blocks bad t o l = rw (plus-none blocks)
+  other-blocks (w ∷ ws) rest blocks bad t o l =
+      one-other w (flatten (ws ++ rest)) blocks bad t (o .0) (l .0)
+      ∙ rw (← plus-assoc blocks (countRead (readOf w)) (countBlocks ws))
+      (other-blocks ws rest (plus blocks (countRead (readOf w))) (badRun bad (readOf w)) (agedBy t) (o .1) (l .1))
+
   module _ (kind : ℕ) (held : candidate ≤ kind) (r : Record) where
-    -- one of the others ages the time
-    one-other : (w rest : List ℕ) (blocks : Blocks) (bad age : ℕ) → Other edition w → badRun bad (readOf w) < 4
-        → runFrom edition (w ++ rest) blocks 0 (holding bad kind r age)
-        ≡ runFrom edition rest (plus blocks (countRead (readOf w))) 0 (nothingWaits (lockOf locked 0 (badRun bad (readOf w)) (agedBy (timeOf kind r age))))
-    one-other w rest blocks bad age o l =
-        feeds edition w (zeros 50) rest blocks (lockOf locked 0 bad (timeOf kind r age)) (o .size) (o .bits) refl refl l
-        ∙ rw (unusable-ages (timeOf kind r age) (usableIn edition (readOf w)) (o .unusable))
-
-    -- after others the record has grown older by as many blocks
-    pub other-blocks : (ws rest : List (List ℕ)) (blocks : Blocks) (bad age : ℕ) → Each (Other edition) ws → LockHolds bad ws → age + length ws < 120
-        → runFrom edition (flatten (ws ++ rest)) blocks 0 (holding bad kind r age)
-        ≡ runFrom edition (flatten rest) (plus blocks (countBlocks ws)) 0 (holding (badRunAfter bad ws) kind r (age + length ws))
-    unfolding flatten
-    other-blocks [] rest blocks bad age o l h = rw (plus-none blocks, add-zero age)
-    other-blocks (w ∷ ws) rest blocks bad age o l h =
-        let a : age + 1 + length ws ≡ age + length (w ∷ ws) = omega arith in
-        one-other w (flatten (ws ++ rest)) blocks bad age (o .0) (l .0)
-        ∙ rw (ages kind r age held (omega arith), ← a, ← plus-assoc blocks (countRead (readOf w)) (countBlocks ws))
-        (other-blocks ws rest (plus blocks (countRead (readOf w))) (badRun bad (readOf w)) (age + 1) (o .1) (l .1) (omega arith))
-
-    -- and at age 120 it is gone
-    pub gone : (ws : List (List ℕ)) (blocks : Blocks) (bad age : ℕ) → Each (Other edition) ws → LockHolds bad ws → 0 < length ws → age + length ws ≡ 120
-        → runFrom edition (flatten ws) blocks 0 (holding bad kind r age) ≡ ended 0 (plus blocks (countBlocks ws)) 0 (nothingWaits (lockOf locked 0 (badRunAfter bad ws) noTime))
-    unfolding flatten runFrom
-    gone [] blocks bad age o l some h = absurd (omega arith)
-    gone (w ∷ []) blocks bad age o l some h =
-        one-other w [] blocks bad age (o .0) (l .0)
-        ∙ rw (goes kind r age held (omega arith))
-        (ap (λ (b : Blocks). ended 0 (plus blocks b) 0 (nothingWaits (lockOf locked 0 (badRun bad (readOf w)) noTime))) (sym (plus-none (countRead (readOf w)))))
-    gone (w ∷ v ∷ ws) blocks bad age o l some h =
-        one-other w (flatten (v ∷ ws)) blocks bad age (o .0) (l .0)
-        ∙ rw (ages kind r age held (omega arith))
-        (gone (v ∷ ws) (plus blocks (countRead (readOf w))) (badRun bad (readOf w)) (age + 1) (o .1) (l .1) (omega arith) (omega arith)
-        ∙ ap (λ (b : Blocks). ended 0 b 0 (nothingWaits (lockOf locked 0 (badRunAfter bad (w ∷ v ∷ ws)) noTime))) (plus-assoc blocks (countRead (readOf w)) (countBlocks (v ∷ ws))))
-
     -- the block of as many minutes later as went by leaves its record confirmed
     pub last-block : (minutes bad age : ℕ) (n : Record) (blocks : Blocks) → 1 ≤ minutes → minutes ≤ 4 → age + 1 ≡ 30 * minutes → Usable edition n → minutesLater edition minutes r ≡ Given n
         → runFrom edition (flatten (timeBlock n ∷ [])) blocks 0 (holding bad kind r age) ≡ ended 0 (plus blocks (countRead (readOf (timeBlock n)))) 0 (holding 0 confirmed n 0)

@@ -25,7 +25,8 @@ use Rattle.calendar.proofs.RoundTrip.{date-back}
 use Rattle.calendar.proofs.MinutesLater.{coded-later, later-of-date}
 use Rattle.calendar.proofs.GoesOn.{later-given}
 use Rattle.timekeeping.specs.Proper.{timeProper}
-use Rattle.timekeeping.specs.Times.{none, candidate, confirmed, noTime}
+use Rattle.timekeeping.specs.declared.Time.{Time}
+use Rattle.timekeeping.specs.Times.{none, candidate, confirmed, timeOf, noTime}
 use Rattle.locking.specs.declared.Blocks.{Blocks}
 use Rattle.locking.specs.Locks.{locked, lockOf, lockProper}
 use Rattle.locking.specs.Modes.{blocksOf, noBlocks}
@@ -35,8 +36,9 @@ use Rattle.receiver.specs.Runs.{plus, ended, runFrom, runOf}
 use Rattle.receiver.proofs.Adding.{none-plus, plus-none, plus-assoc}
 use Rattle.receiver.proofs.Together.{run-is}
 use Rattle.journey.specs.Journey.{timeBlock, Other, Each, badRunAfter, LockHolds, countRead, countBlocks, Quiet, Missed, heard, Idle, holding, Leads, Writable, Journey, EveryJourney}
+use Rattle.journey.proofs.Aging.{agedAll, grows-older, is-gone}
 use Rattle.journey.proofs.Worded.{date-usable, has-word, word-fits}
-use Rattle.journey.proofs.Minutes.{first-block, other-blocks, gone, last-block}
+use Rattle.journey.proofs.Minutes.{first-block, other-blocks, last-block}
 use Rattle.journey.proofs.Missed.{others-append, heard-others, heard-length, missed-hold}
 
 -- ---- lengths and counts
@@ -67,26 +69,23 @@ module _ (edition : Edition) where
     unfolding properOf bitsProper lockProper timeProper
     begun = rw (ne-eqb kind none (λ z. omega arith), le-leb kind confirmed known, usable-is edition r u)
 
-    -- others fed at age 0, and what follows them
-    on : (others rest : List (List ℕ)) → Each (Other edition) others → LockHolds 0 others → length others < 120 → length (flatten rest) ≤ 50
+    -- others fed at age 0, what they make of the time, and what follows them
+    on : (others rest : List (List ℕ)) (t : Time) → Each (Other edition) others → LockHolds 0 others → length others ≤ 120 → length (flatten rest) ≤ 50
+        → agedAll (timeOf kind r 0) (length others) ≡ t
         → runOf edition (holding 0 kind r 0) (flatten (others ++ rest))
-        ≡ runFrom edition (flatten rest) (countBlocks others) 0 (holding (badRunAfter 0 others) kind r (length others))
-    on others rest o l few h =
+        ≡ runFrom edition (flatten rest) (countBlocks others) 0 (nothingWaits (lockOf locked 0 (badRunAfter 0 others) t))
+    on others rest t o l few h e =
         run-is edition (holding 0 kind r 0) (flatten (others ++ rest)) (omega (arith, length-flat others rest o)) begun
-        ∙ other-blocks edition kind held r others rest noBlocks 0 0 o l (omega arith) ∙ rw (none-plus (countBlocks others), zero-add (length others))
+        ∙ other-blocks edition others rest noBlocks 0 (timeOf kind r 0) o l ∙ rw (none-plus (countBlocks others), e)
 
-    lasts : (others : List (List ℕ)) → length others < 120 → Each (Other edition) others → LockHolds 0 others
-        → Leads edition (holding 0 kind r 0) others (holding (badRunAfter 0 others) kind r (length others))
+    leads : (others : List (List ℕ)) (t : Time) → Each (Other edition) others → LockHolds 0 others → length others ≤ 120
+        → agedAll (timeOf kind r 0) (length others) ≡ t → Leads edition (holding 0 kind r 0) others (nothingWaits (lockOf locked 0 (badRunAfter 0 others) t))
     unfolding flatten runFrom
-    lasts others few o l = ap (λ (ws : List (List ℕ)). runOf edition (holding 0 kind r 0) (flatten ws)) (sym (append-nil others)) ∙ on others [] o l few (omega arith)
+    leads others t o l few e =
+        ap (λ (ws : List (List ℕ)). runOf edition (holding 0 kind r 0) (flatten ws)) (sym (append-nil others)) ∙ on others [] t o l few (omega arith) e
 
-    ends : (others : List (List ℕ)) → length others ≡ 120 → Each (Other edition) others → LockHolds 0 others
-        → Leads edition (holding 0 kind r 0) others (nothingWaits (lockOf locked 0 (badRunAfter 0 others) noTime))
-    unfolding flatten
-    ends others count o l =
-        run-is edition (holding 0 kind r 0) (flatten others) (omega (arith, rw append-nil at (length-flat others [] o))) begun
-        ∙ gone edition kind held r others noBlocks 0 0 o l (omega arith) (omega arith)
-        ∙ ap (λ (b : Blocks). ended 0 b 0 (nothingWaits (lockOf locked 0 (badRunAfter 0 others) noTime))) (none-plus (countBlocks others))
+    still-held : (n : ℕ) → n < 120 → agedAll (timeOf kind r 0) n ≡ timeOf kind r n
+    still-held n h = rw (zero-add n) at (grows-older kind held r 0 n (omega arith))
 
     module _ (minutes : ℕ) (from : 1 ≤ minutes) (to : minutes ≤ 4) (n : Record) (e : minutesLater edition minutes r ≡ Given n) (v : Usable edition n) where
       confirms : (others : List (List ℕ)) → length others + 1 ≡ 30 * minutes → Each (Other edition) others → LockHolds 0 others
@@ -97,7 +96,8 @@ module _ (edition : Edition) where
           let one = countRead (readOf (timeBlock n)) in
           let all : plus (countBlocks others) one ≡ countBlocks (others ++ last) =
           ap (plus (countBlocks others)) (sym (plus-none one)) ∙ sym (count-append others last) in
-          on others last o l (omega arith) (omega (arith, length-append (timeBlock n) [], length-block n))
+          on others last (timeOf kind r (length others)) o l (omega arith) (omega (arith, length-append (timeBlock n) [], length-block n))
+          (still-held (length others) (omega arith))
           ∙ last-block edition kind held r minutes (badRunAfter 0 others) (length others) n (countBlocks others) from to whole v e
           ∙ ap (λ (b : Blocks). ended 0 b 0 (holding 0 confirmed n 0)) all
 
@@ -126,8 +126,8 @@ module _ (edition : Edition) where
         has-word = has-word r (u .in-range);
         arrives = arrives s r i u;
         dates-back = date-back edition d r first (w .is-recorded) (w .from-first) (w .to-last) (w .begun) (w .within);
-        lasts = λ kind held known. lasts kind held known r u;
-        ends = λ kind held known. ends kind held known r u;
+        lasts = λ kind held known others few o l. leads kind held known r u others (timeOf kind r (length others)) o l (omega arith) (still-held kind held known r u (length others) few);
+        ends = λ kind held known others count o l. leads kind held known r u others noTime o l (omega arith) (is-gone kind held r 0 (length others) (omega arith) (omega arith));
         goes-on = λ minutes from to.
             let later = later-given edition minutes r u in
             let n = later .0 in
