@@ -17,6 +17,7 @@ use Rattle.block.specs.declared.Read.the-variants.{Block, Refused}
 use Rattle.block.proofs.RoundTrip.{written-good, read-back}
 use Rattle.detection.specs.Damage.{refusedWith}
 use Rattle.detection.specs.Slips.{Message, sent, window, before, after}
+use Rattle.detection.proofs.Refusal.{refused-not-zero}
 use Rattle.detection.proofs.Seams.{skip}
 use Rattle.detection.proofs.Slips.{slips-refused}
 use Rattle.record.proofs.Tests.{le-or-lt}
@@ -48,8 +49,7 @@ whole (m ∷ messages) start e h =
     (le-or-lt 50 start)
 
 refused-not-good : (prefixWrong : Bool) (w : Read) → refusalIn w ≡ refusedWith prefixWrong → isGood w ≡ false
-refused-not-good true (Block code word) e = absurd (omega arith)
-refused-not-good false (Block code word) e = absurd (omega arith)
+refused-not-good prefixWrong (Block code word) e = absurd (refused-not-zero prefixWrong e)
 refused-not-good prefixWrong (Refused why told) e = refl
 
 module _ (messages : List Message) where

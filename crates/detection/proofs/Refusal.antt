@@ -1,5 +1,6 @@
 -- Fifty bits that are not a good block are refused: with 3 where they begin with a 0, with 4 otherwise.
 -- Assumes nothing.
+use mathlib.Core.Bool.{Bool, true, false}
 use mathlib.Core.List.{List}
 use mathlib.Core.Path.{_≡_, refl, sym, ap}
 use Prim.Native.Nat.{ℕ}
@@ -15,6 +16,11 @@ use Rattle.block.proofs.CheckWord.{none-check}
 use Rattle.block.proofs.Reading.{wrong-prefix, wrong-check-word}
 use Rattle.detection.specs.Damage.{refusedWith}
 use Rattle.detection.specs.Slips.{IsRefused}
+
+-- so it is never taken for a block, whose number is 0
+pub refused-not-zero : (prefixWrong : Bool) → 0 ≡ refusedWith prefixWrong → ⊥
+refused-not-zero true e = omega arith
+refused-not-zero false e = omega arith
 
 pub refused : (w : List ℕ) → length w ≡ 50 → Bits w → (Good w → ⊥) → IsRefused w
 refused w l h f =

@@ -1,6 +1,5 @@
 -- Slips: a good window would overlap with the block behind whose start it begins, or before whose start, in all but a few places.
 -- Assumes nothing.
-use mathlib.Core.Bool.{Bool, true, false}
 use mathlib.Core.List.{List, [], _∷_, _++_, append-assoc}
 use mathlib.Core.Logic.{_⊎_, inl, inr}
 use mathlib.Core.Path.{_≡_, sym, ap, _∙_, subst}
@@ -15,10 +14,9 @@ use Rattle.block.specs.Bits.{Bits, value, valueFrom}
 use Rattle.block.specs.Block.{Good, prefixIn}
 use Rattle.block.proofs.CheckWord.{good-rem}
 use Rattle.block.proofs.Strings.{bits-take, bits-drop, val-from, val-lt}
-use Rattle.detection.specs.Damage.{refusedWith}
 use Rattle.detection.specs.Slips.{Message, sent, window, before, after, IsRefused, SlipsRefused, NearRefused, Aligned}
 use Rattle.detection.proofs.Overlap.{no-overlap}
-use Rattle.detection.proofs.Refusal.{refused}
+use Rattle.detection.proofs.Refusal.{refused-not-zero, refused}
 use Rattle.detection.proofs.Seams.{seam, seam-size, seam-bits}
 
 -- ---- after a start: before the overlap stand the block's bits from its second to the window's first, behind it the next block's first
@@ -89,15 +87,11 @@ pub near-refused : NearRefused
 near-refused messages n start (before d p q e) h = slips-refused messages n start (before d (omega arith) (omega arith) e) h
 near-refused messages n start (after d p q e) h = slips-refused messages n start (after d (omega arith) (omega arith) e) h
 
-not-zero : (prefixWrong : Bool) → 0 ≡ refusedWith prefixWrong → ⊥
-not-zero true e = omega arith
-not-zero false e = omega arith
-
 pub aligned : Aligned
 aligned messages n start l m h r = go (ℕ-discrete start (50 * n)) (decLe start (50 * n))
   where
     never : IsRefused (window (sent messages) start) → ⊥
-    never e = not-zero (eqb (prefixIn (window (sent messages) start)) 0) (sym r ∙ e)
+    never e = refused-not-zero (eqb (prefixIn (window (sent messages) start)) 0) (sym r ∙ e)
 
     go : Dec (start ≡ 50 * n) → Dec (start ≤ 50 * n) → start ≡ 50 * n
     go (yes e) b = e

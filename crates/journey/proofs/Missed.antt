@@ -16,6 +16,7 @@ use Rattle.block.specs.declared.Read.the-variants.{Block, Refused}
 use Rattle.block.proofs.Strings.{length-xors, bits-xors}
 use Rattle.detection.specs.Damage.{refusedWith}
 use Rattle.detection.proofs.Damage.{damage-refused}
+use Rattle.detection.proofs.Refusal.{refused-not-zero}
 use Rattle.record.specs.declared.Edition.{Edition}
 use Rattle.timekeeping.specs.Proper.{isGiven}
 use Rattle.timekeeping.specs.Times.{usableIn}
@@ -67,8 +68,7 @@ module _ (edition : Edition) where
 
   refused : (prefix : Bool) (v : Read) → refusalIn v ≡ refusedWith prefix → isGiven (usableIn edition v) ≡ false
   unfolding usableIn
-  refused true (Block code word) e = absurd (omega arith)
-  refused false (Block code word) e = absurd (omega arith)
+  refused prefix (Block code word) e = absurd (refused-not-zero prefix e)
   refused prefix (Refused why told) e = refl
 
 pub damaged-is-other : DamagedIsOther
