@@ -63,7 +63,7 @@ module _ (edition : Edition) (v : List ℕ) where
   length-at k n h = length-take-le n (drop k v) (omega (arith, length-drop k v))
 
   -- fewer than fifty only wait
-  pub at-few : (l : Lock) (k n : ℕ) → n < 50 → k + n ≤ length v → at l k n ≡ stateOf l n (take n (drop k v) ++ drop n (zeros 50))
+  at-few : (l : Lock) (k n : ℕ) → n < 50 → k + n ≤ length v → at l k n ≡ stateOf l n (take n (drop k v) ++ drop n (zeros 50))
   at-few l k n few-left h = let e = length-at k n h in rw e at (few edition l (take n (drop k v)) (omega arith))
 
   -- a window is judged and used up
@@ -75,7 +75,7 @@ module _ (edition : Edition) (v : List ℕ) where
       ∙ ap (λ (t : List ℕ). afterFrom edition (nothingWaits (judgedBy edition l (readOf (window v k)) .lock)) (take n t)) (drop-drop 50 k v)
 
   -- or its first bit is passed over
-  pub at-over : (k n : ℕ) → 49 ≤ n → k + suc n ≤ length v → isGood (readOf (window v k)) ≡ false → at freshLock k (suc n) ≡ at freshLock (suc k) n
+  at-over : (k n : ℕ) → 49 ≤ n → k + suc n ≤ length v → isGood (readOf (window v k)) ≡ false → at freshLock k (suc n) ≡ at freshLock (suc k) n
   at-over k n m h bad =
       let x : ℕ = getD v k 0 in
       let t : List ℕ = drop (suc k) v in

@@ -39,7 +39,7 @@ pub record Acquires (edition : Edition) (heard : List ℕ) (before : ℕ) : Type
 abbrev pub wait : ℕ → ℕ
 wait left = bitsBeforeBlock left + 150
 
--- it is 150 to 199 bits, and each of these numbers for one number of bits left out
+-- it is 150 to 199 bits, and each of these numbers for some number of bits left out
 pub record WaitBounds : Type 0 where
   pub least : (left : ℕ) → left < 50 → 150 ≤ wait left
   pub most : (left : ℕ) → left < 50 → wait left ≤ 199
