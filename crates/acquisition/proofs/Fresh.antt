@@ -19,10 +19,11 @@ use Rattle.timekeeping.specs.Times.{none}
 use Rattle.locking.specs.Locks.{locked}
 use Rattle.locking.specs.Modes.{isGood}
 use Rattle.receiver.specs.declared.State.{State}
+use Rattle.receiver.specs.declared.Until.the-variants.{LockChange}
 use Rattle.receiver.specs.States.{freshOf}
 use Rattle.receiver.specs.Steps.{stepOf}
 use Rattle.receiver.specs.History.{afterFrom, afterFirst}
-use Rattle.receiver.specs.Changes.{sameLock, toChange}
+use Rattle.receiver.specs.Changes.{sameLock, runsOn, upTo}
 use Rattle.receiver.proofs.Choices.{mode-of}
 use Rattle.receiver.proofs.Earned.{held-is-locked}
 use Rattle.acquisition.specs.Heard.{heardFrom, bitsBeforeBlock, GoodAt, NotGoodAt}
@@ -91,8 +92,8 @@ unlocked edition heard before a m h lies now =
 
 -- so lock changes first with the bit with which it comes
 ends-with : (edition : Edition) (s : State) (bits : List ℕ) (n : ℕ) → 1 ≤ n → n ≤ length bits → ((m : ℕ) → m < n → afterFrom edition s (take m bits) .mode ≡ locked → ⊥)
-    → afterFrom edition s (take n bits) .mode ≡ locked → toChange edition s bits ≡ take n bits
-unfolding afterFrom toChange sameLock
+    → afterFrom edition s (take n bits) .mode ≡ locked → upTo edition LockChange s bits ≡ take n bits
+unfolding afterFrom upTo runsOn sameLock
 ends-with edition s bits zero some h never comes = absurd (omega arith)
 ends-with edition s [] (suc n) some h never comes = absurd (omega arith)
 ends-with edition s (b ∷ bits) (suc zero) some h never comes = rw (ne-eqb (s .mode) locked (never 0 (omega arith)), comes)

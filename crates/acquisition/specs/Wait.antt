@@ -11,9 +11,10 @@ use Rattle.record.specs.declared.Edition.{Edition}
 use Rattle.timekeeping.specs.Times.{none, noTime}
 use Rattle.locking.specs.Locks.{hunting, trying, locked, lockOf}
 use Rattle.receiver.specs.declared.State.{State}
+use Rattle.receiver.specs.declared.Until.the-variants.{LockChange}
 use Rattle.receiver.specs.States.{nothingWaits, freshOf, properOf}
 use Rattle.receiver.specs.History.{afterFrom, afterFirst}
-use Rattle.receiver.specs.Changes.{toChange}
+use Rattle.receiver.specs.Changes.{upTo}
 use Rattle.acquisition.specs.Heard.{heardFrom, bitsBeforeBlock, OnlyBlocks, OnlyBlocksFar}
 
 -- so many bits after the start of a block, locked and in step: what waits is what came since the last start
@@ -60,7 +61,7 @@ FarPromise =
 abbrev pub FirstChange : Type 0
 FirstChange =
     (edition : Edition) (messages : List Message) (left : ℕ) → left < 50 → OnlyBlocksFar left (left + bitsBeforeBlock left) messages
-    → wait left ≤ length (heardFrom left messages) → toChange edition freshOf (heardFrom left messages) ≡ take (wait left) (heardFrom left messages)
+    → wait left ≤ length (heardFrom left messages) → upTo edition LockChange freshOf (heardFrom left messages) ≡ take (wait left) (heardFrom left messages)
 
 -- ---- from any state
 

@@ -11,18 +11,21 @@ use lib.ListN.{length, take, drop, length-drop, take-append-drop}
 use lib.Seq.{drop-drop}
 use Rattle.block.specs.Bits.{Bits}
 use Rattle.block.proofs.Strings.{bits-drop, rest-whole}
+use Rattle.locking.specs.declared.Lock.{Lock}
 use Rattle.locking.specs.Modes.{noBlocks}
 use Rattle.receiver.specs.declared.Ran.{Ran}
 use Rattle.receiver.specs.declared.State.{State}
+use Rattle.receiver.specs.declared.Until.the-variants.{LockChange}
+use Rattle.receiver.specs.States.{lockIn}
 use Rattle.receiver.specs.Steps.{Step, stepOf}
 use Rattle.receiver.specs.Runs.{runFrom}
 use Rattle.receiver.specs.Packed.{packed, unpacked, packedProper}
-use Rattle.receiver.specs.Changes.{sameLock, toChange}
+use Rattle.receiver.specs.Changes.{sameLock, runsOn, upTo}
 use Rattle.receiver.proofs.StaysProper.{Proper, step-proper}
 use Rattle.receiver.proofs.Layouts.{proper-fifty, there-and-back, packed-proper, back-and-there, proper-small, proper-unpacked}
 use Rattle.receiver.proofs.Together.{from-next}
-use Rattle.receiver.proofs.Running.{same-lock}
-use Rattle.receiver.proofs.Changes.{change-length, change-first, change-bits, same-on}
+use Rattle.receiver.proofs.Running.{runs-same}
+use Rattle.receiver.proofs.Changes.{runs-on, up-to-length, up-to-some, up-to-first, up-to-bits}
 use Rattle.receive.specs.declared.totals.Heard.{Heard}
 use Rattle.receive.specs.declared.totals.Kept.{Kept}
 use Rattle.receive.specs.declared.totals.Said.the-variants.{Nothing}
@@ -37,18 +40,12 @@ after-append k (x ∷ xs) ys = after-append (keptNext k x) xs ys
 
 -- after the bits up to the change, those behind them
 pub after-change : (k : Kept) (s : State) (bits : List ℕ)
-    → keptAfter (keptAfter k (toChange edition s bits)) (drop (length (toChange edition s bits)) bits) ≡ keptAfter k bits
+    → keptAfter (keptAfter k (upTo edition LockChange s bits)) (drop (length (upTo edition LockChange s bits)) bits) ≡ keptAfter k bits
 after-change k s bits =
-    let part : List ℕ = toChange edition s bits in
+    let part : List ℕ = upTo edition LockChange s bits in
     let rest : List ℕ = drop (length part) bits in
-    let whole : part ++ rest ≡ bits = ap (λ (l : List ℕ). l ++ rest) (sym (change-first edition s bits)) ∙ take-append-drop (length part) bits in
+    let whole : part ++ rest ≡ bits = ap (λ (l : List ℕ). l ++ rest) (sym (up-to-first edition LockChange s bits)) ∙ take-append-drop (length part) bits in
     sym (after-append k part rest) ∙ ap (keptAfter k) whole
-
--- where there is a bit, one is up to the change
-pub change-some : (s : State) (bits : List ℕ) → 0 < length bits → 0 < length (toChange edition s bits)
-unfolding toChange
-change-some s [] h = absurd (omega arith)
-change-some s (b ∷ bits) h = omega arith
 
 -- ---- one bit more, in fifty places and packed
 
@@ -74,28 +71,34 @@ fed-proper {start} f p = rw (f .fed) (after-proper start (f .history) (f .bits) 
 
 -- ---- what is said
 
-said-same : (a b c n : ℕ) → sameLock a b ≡ true → saidAt a c n ≡ saidAt b c n
-unfolding saidAt
-said-same a b c n e = rw (same-on a b c e)
+-- the lock in what is kept
+abbrev lock : Kept → Lock
+lock k = lockIn (unpacked (k .state))
 
-said-none : (m n : ℕ) → saidAt m m n ≡ Nothing
-unfolding saidAt
-said-none m n = rw (same-lock m)
+said-same : (a b c : Kept) (n : ℕ) → sameLock (a .state .mode) (b .state .mode) ≡ true → saidAt (a .state .mode) (c .state .mode) n ≡ saidAt (b .state .mode) (c .state .mode) n
+unfolding saidAt runsOn
+said-same a b c n e = rw (runs-on LockChange (lock a) (lock b) (lock c) e)
+
+said-none : (k : Kept) (n : ℕ) → saidAt (k .state .mode) (k .state .mode) n ≡ Nothing
+unfolding saidAt runsOn
+said-none k n = rw (runs-same LockChange (lock k))
 
 -- what is said of these bits is said of the last up to the change, by the modes before them and after it
 abbrev Last : Kept → List ℕ → Type 0
 Last k bits =
-    let r : Kept = keptAfter k (toChange edition (unpacked (k .state)) bits) in
+    let r : Kept = keptAfter k (upTo edition LockChange (unpacked (k .state)) bits) in
     saidOf k bits ≡ saidAt (k .state .mode) (r .state .mode) (r .fed)
 
 pub said-last : (k : Kept) (bits : List ℕ) → Bits bits → packedProper edition (k .state) ≡ true → Last k bits
-unfolding saidOf keptAfter keptNext toChange
-said-last k [] h p = sym (said-none (k .state .mode) (k .fed))
+unfolding saidOf keptAfter keptNext runsOn upTo
+said-last k [] h p = sym (said-none k (k .fed))
 said-last k (b ∷ bits) h p =
     by (sameLock (k .state .mode) (keptNext k b .state .mode)) refl (said-last (keptNext k b) bits (h .1) (next-proper k b (h .0) p))
   where
     by : (same : Bool) → sameLock (k .state .mode) (keptNext k b .state .mode) ≡ same → Last (keptNext k b) bits → Last k (b ∷ bits)
-    by true e on = rw e (rw (next-unpacked k b (h .0) p) at on ∙ sym (said-same (k .state .mode) (keptNext k b .state .mode) _ _ e))
+    by true e on =
+        let last : Kept = keptAfter (keptNext k b) (upTo edition LockChange (unpacked (keptNext k b .state)) bits) in
+        rw e (rw (next-unpacked k b (h .0) p) at (on ∙ sym (said-same k (keptNext k b) last _ e)))
     by false e on = rw e
 
 -- ---- totals
@@ -174,14 +177,14 @@ module _ (k : Kept) (bits : List ℕ) (i : ℕ) (h : Heard) (e : h ≡ heardOf k
   unfolding heardOf
   turn-fed =
       let n : length (drop i bits) ≡ length bits - i = length-drop i bits in
-      rw turn (change-some (unpacked (k .state)) (drop i bits) (omega arith), omega (arith, change-length edition (unpacked (k .state)) (drop i bits)))
+      rw turn (up-to-some edition LockChange (unpacked (k .state)) (drop i bits) (omega arith), omega (arith, up-to-length edition LockChange (unpacked (k .state)) (drop i bits)))
 
   pub turn-proper : Bits bits → packedProper edition (k .state) ≡ true → packedProper edition (h .kept .state) ≡ true
   unfolding heardOf
-  turn-proper b p = rw turn (after-proper k _ (change-bits edition (unpacked (k .state)) (drop i bits) (bits-drop i bits b)) p)
+  turn-proper b p = rw turn (after-proper k _ (up-to-bits edition LockChange (unpacked (k .state)) (drop i bits) (bits-drop i bits b)) p)
 
   pub turn-kept : keptAfter (h .kept) (drop (i + h .fed) bits) ≡ keptAfter k (drop i bits)
   unfolding heardOf
   turn-kept =
       let s : State = unpacked (k .state) in
-      rw turn (rw (← drop-drop (length (toChange edition s (drop i bits))) i bits) (after-change k s (drop i bits)))
+      rw turn (rw (← drop-drop (length (upTo edition LockChange s (drop i bits))) i bits) (after-change k s (drop i bits)))

@@ -1,3 +1,1 @@
--- The laws, in reading order.
-pub mod Picking
 pub mod Hearing

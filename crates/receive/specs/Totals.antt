@@ -10,9 +10,10 @@ use Rattle.block.specs.Bits.{Bits}
 use Rattle.record.specs.declared.Edition.{Edition}
 use Rattle.record.specs.declared.Edition.the-variants.{Of1984}
 use Rattle.locking.specs.Locks.{locked}
+use Rattle.receiver.specs.declared.Until.the-variants.{LockChange}
 use Rattle.receiver.specs.Steps.{Step, stepOf}
 use Rattle.receiver.specs.Packed.{packed, unpacked, freshPacked}
-use Rattle.receiver.specs.Changes.{sameLock, toChange}
+use Rattle.receiver.specs.Changes.{sameLock, upTo}
 use Rattle.receive.specs.declared.totals.Heard.{Heard}
 use Rattle.receive.specs.declared.totals.Kept.{Kept}
 use Rattle.receive.specs.declared.totals.Said.{Said}
@@ -61,7 +62,7 @@ saidOf k (b ∷ bs) =
 -- the bits up to that one are heard, or all
 unfoldable pub heardOf : Kept → List ℕ → Heard
 heardOf k bits =
-    let part : List ℕ = toChange edition (unpacked (k .state)) bits in
+    let part : List ℕ = upTo edition LockChange (unpacked (k .state)) bits in
     record { kept = keptAfter k part; fed = length part; said = saidOf k bits }
 
 -- from one to the other some bits were fed: no contract can say which are read

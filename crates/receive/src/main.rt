@@ -7,18 +7,18 @@ ghost use Rattle.block.specs.Bits.{Bits};
 ghost use Rattle.receiver.specs.Packed.{packedProper};
 ghost use Rattle.receive.specs.Totals.{edition, keptAfter, freshKept, FedOn};
 
-mod input;
 mod report;
 mod totals;
 
-use input::pick_bits;
+use input::Piece;
+use input::read_bits;
 use report::say;
 use report::say_end;
 use totals::Kept;
 use totals::hear;
 
-// After some of the input: whether there may be more of it, and whether all reading and writing so far succeeded.
-struct Piece {
+// What is kept after some of the input, whether there may be more of it, and whether all reading and writing so far succeeded.
+struct Progress {
     kept: Kept,
     more: bool,
     sound: bool,
@@ -37,13 +37,13 @@ fn fresh() -> Kept
     }
 }
 
-// Feeds all the bits and tells where lock came or went. After a line that could not be written nothing more is told.
-fn feed_all(start: Kept, bits: &[u8], more: bool) -> Piece
+// Feeds all the bits of a piece and tells where lock came or went. After a line that could not be written nothing more is told.
+fn feed_all(start: Kept, bits: &[u8], piece: Piece) -> Progress
     requires { ⌜ (packedProper edition (start .state) ≡ true) × Bits (now bits) × (length (now bits) ≤ 65536) ⌝ }
     ensures { λ p. ⌜ p .kept ≡ keptAfter start (now (bits .entry)) ⌝ }
 {
     let mut kept = start;
-    let mut sound = true;
+    let mut sound = piece.sound;
     let mut i: usize = 0;
     while i < bits.len() {
         let heard = hear(kept, &bits[i..]);
@@ -55,59 +55,41 @@ fn feed_all(start: Kept, bits: &[u8], more: bool) -> Piece
         kept = next;
         i += heard.fed;
     }
-    Piece { kept, more, sound }
-}
-
-// Nothing was read: the input has ended, or a read failed. An interrupted read is taken up again; any other failure is told.
-fn unread(kept: Kept, got: isize) -> Piece
-    ensures { λ p. ⌜ p .kept ≡ kept ⌝ }
-{
-    let mut more = false;
-    let mut sound = true;
-    if got < 0 {
-        if os::errno() == libc::EINTR {
-            more = true;
-        } else {
-            os::fail(b"receive: standard input");
-            sound = false;
-        }
+    Progress {
+        kept,
+        more: piece.more,
+        sound,
     }
-    Piece { kept, more, sound }
 }
 
 // Reads one large piece of the input and feeds its bits.
-fn read_piece(start: Kept) -> Piece
+fn read_piece(start: Kept) -> Progress
     requires { ⌜ packedProper edition (start .state) ≡ true ⌝ }
     ensures { λ p. ⌜ FedOn start (p .kept) ⌝ }
 {
     let mut buffer = io::large_buffer();
-    let got = libc::read(0, &mut buffer);
-    if got < 1 {
-        return unread(start, got);
-    }
-    let n = io::count(got, &buffer);
-    let picked = pick_bits(&mut buffer, n);
-    let m = picked.bits;
-    feed_all(start, &buffer[..m], picked.more)
+    let piece = read_bits(&mut buffer, b"receive: standard input");
+    let n = piece.bits;
+    feed_all(start, &buffer[..n], piece)
 }
 
 // Piece after piece, until the input ends or reading or writing fails. The last line says that the input ended, so after a
 // failure it is left out.
 fn main() {
     let kept = fresh();
-    let mut piece = Piece {
+    let mut progress = Progress {
         kept,
         more: true,
         sound: true,
     };
     let mut turns = u64::MAX;
-    while 0 < turns && piece.more && piece.sound {
-        let kept = piece.kept;
-        piece = read_piece(kept);
+    while 0 < turns && progress.more && progress.sound {
+        let kept = progress.kept;
+        progress = read_piece(kept);
         turns -= 1;
     }
-    if piece.sound {
-        let kept = piece.kept;
+    if progress.sound {
+        let kept = progress.kept;
         let state = kept.state;
         say_end(
             kept.fed,

@@ -7,6 +7,8 @@ ghost use Rattle.block.specs.Bits.{Bits};
 ghost use Rattle.receiver.specs.Packed.{packedProper};
 ghost use Rattle.receive.specs.Totals.{edition, total, saidAt, heardOf};
 use receiver::PackedState;
+use receiver::Until;
+use receiver::run_until;
 use record::Edition;
 
 // The totals over the whole input so far, and the state after it, its waiting bits one number.
@@ -62,7 +64,7 @@ pub fn hear(kept: Kept, bits: &[u8]) -> Heard
 {
     let before = kept.state;
     // Nothing that is told depends on a record, so either edition would do.
-    let stretch = receiver::run_to_change(Edition::Of1984, before, bits);
+    let stretch = run_until(Edition::Of1984, before, bits, Until::LockChange);
     let ran = stretch.ran;
     let counts = ran.counts;
     let state = ran.state;

@@ -45,7 +45,7 @@ module _ (edition : Edition) where
       let e : s .waiting + 1 ≡ 50 = omega arith in
       rw e (judged-elim edition (λ (j : Judged). Stepped 50 (judges (filled s b) j)) (lockIn s) (readOf (filled s b)) (λ _. refl) (λ _. refl) refl))
 
-  from-balance : (bs : List ℕ) (blocks : Blocks) (passed : ℕ) (s : State) → s .waiting < 50
+  pub from-balance : (bs : List ℕ) (blocks : Blocks) (passed : ℕ) (s : State) → s .waiting < 50
       → Balanced (s .waiting + length (bitsBefore bs) + 50 * (blocks .good + blocks .bad) + passed) (runFrom edition bs blocks passed s)
   unfolding runFrom bitsBefore
   from-balance [] blocks passed s h = omega arith

@@ -4,10 +4,12 @@ use mathlib.Core.Path.{sym, _∙_}
 use Rattle.refusal.proofs.Determined.{Determined}
 use Rattle.receiver.proofs.fresh.Reads as fresh
 use Rattle.receiver.proofs.fresh_packed.Reads as fresh-packed
+use Rattle.receiver.proofs.is_proper.Reads as is-proper
+use Rattle.receiver.proofs.later.Reads as later
 use Rattle.receiver.proofs.refused.Reads as refused
 use Rattle.receiver.proofs.run.Reads as run
 use Rattle.receiver.proofs.run_packed.Reads as run-packed
-use Rattle.receiver.proofs.run_to_change.Reads as run-to-change
+use Rattle.receiver.proofs.run_until.Reads as run-until
 use Rattle.receiver.proofs.step.Reads as step
 use Rattle.receiver.proofs.step_packed.Reads as step-packed
 
@@ -17,8 +19,8 @@ fresh-determined κs a x y s t p q = p ∙ sym q
 pub run-determined : Determined run.Post
 run-determined κs a x y s t p q = p ∙ sym q
 
-pub run-to-change-determined : Determined run-to-change.Post
-run-to-change-determined κs a x y s t p q = p ∙ sym q
+pub run-until-determined : Determined run-until.Post
+run-until-determined κs a x y s t p q = p ∙ sym q
 
 pub step-determined : Determined step.Post
 step-determined κs a x y s t p q = p ∙ sym q
@@ -34,3 +36,9 @@ step-packed-determined κs a x y s t p q = p ∙ sym q
 
 pub refused-determined : Determined refused.Post
 refused-determined κs a x y s t p q = p ∙ sym q
+
+pub is-proper-determined : Determined is-proper.Post
+is-proper-determined κs a x y s t p q = p ∙ sym q
+
+pub later-determined : Determined later.Post
+later-determined κs a x y s t p q = p ∙ sym q

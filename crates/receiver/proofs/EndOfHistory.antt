@@ -90,7 +90,7 @@ module _ (l : List ℕ) (b : ℕ) where
       block-now e = record { from = omega (arith, length-full); to = omega arith; reads = rw window-now e }
 
 module _ (edition : Edition) where
-  after-more : (l : List ℕ) (b : ℕ) → after edition (l ▹ b) ≡ stepOf edition (after edition l) b .next
+  pub after-more : (l : List ℕ) (b : ℕ) → after edition (l ▹ b) ≡ stepOf edition (after edition l) b .next
   unfolding afterFrom
   after-more l b = after-append edition freshOf l (b ∷ [])
 

@@ -59,11 +59,16 @@ module _ (edition : Edition) where
 
   -- ---- two strings
 
-  -- a run of bits is not refused, and its count of those waiting is the state's
-  pub from-bits : (xs : List ℕ) (blocks : Blocks) (passed : ℕ) (s : State) → Bits xs
-      → (runFrom edition xs blocks passed s .counts .refusal ≡ 0) × (runFrom edition xs blocks passed s .counts .waiting ≡ runFrom edition xs blocks passed s .state .waiting)
+  -- a run counts those waiting that wait in its state
+  pub from-waiting : (xs : List ℕ) (blocks : Blocks) (passed : ℕ) (s : State) → runFrom edition xs blocks passed s .counts .waiting ≡ runFrom edition xs blocks passed s .state .waiting
   unfolding runFrom
-  from-bits [] blocks passed s h = (refl, refl)
+  from-waiting [] blocks passed s = refl
+  from-waiting (x ∷ xs) blocks passed s = cond-elim (λ (r : Ran). r .counts .waiting ≡ r .state .waiting) (ltb x 2) (λ _. from-waiting xs _ _ (stepOf edition s x .next)) (λ _. refl)
+
+  -- a run of bits is not refused
+  pub from-bits : (xs : List ℕ) (blocks : Blocks) (passed : ℕ) (s : State) → Bits xs → runFrom edition xs blocks passed s .counts .refusal ≡ 0
+  unfolding runFrom
+  from-bits [] blocks passed s h = refl
   from-bits (x ∷ xs) blocks passed s h = rw (lt-ltb x 2 (h .0)) (from-bits xs _ _ (stepOf edition s x .next) (h .1))
 
   -- a run goes on with ys
@@ -111,4 +116,4 @@ module _ (edition : Edition) where
   unfolding runFrom
   before-bad s xs b ys p h bad limit =
       both-are s xs (b ∷ ys) p h limit
-      ∙ rw (le-ltb b 2 bad, first-is s xs (b ∷ ys) p h limit, from-bits xs noBlocks 0 s h .1)
+      ∙ rw (le-ltb b 2 bad, first-is s xs (b ∷ ys) p h limit, from-waiting xs noBlocks 0 s)

@@ -28,15 +28,16 @@ use Rattle.locking.specs.Modes.{noBlocks, isGood, passedOver, judgedBy}
 use Rattle.locking.proofs.Choices.{passes-over, uses-up}
 use Rattle.locking.proofs.NoTime.{hunting-fresh}
 use Rattle.receiver.specs.declared.PackedState.{PackedState}
+use Rattle.receiver.specs.declared.Until.{Until}
 use Rattle.receiver.specs.States.{stateOf, lockIn}
 use Rattle.receiver.specs.Runs.{plus, ended}
 use Rattle.receiver.specs.Packed.{packedOf, packed, unpacked, packedProper, packedRan}
-use Rattle.receiver.specs.Changes.{sameLock, withFed}
+use Rattle.receiver.specs.Changes.{runsOn, withFed}
 use Rattle.receiver.proofs.Adding.{plus-none}
 use Rattle.receiver.proofs.StaysProper.{room, bits-and-lock}
 use Rattle.receiver.proofs.Numbers.{placesOf, joins, full, passes, used-up, raised-value, lowered, proper-number}
 use Rattle.receiver.proofs.Layouts.{proper-unpacked}
-use Rattle.receiver.proofs.Running.{goesOn, same-lock, on-waits, on-judges, on-ends}
+use Rattle.receiver.proofs.Running.{goesOn, runs-same, on-waits, on-judges, on-ends}
 
 -- ---- the circuit
 
@@ -83,9 +84,9 @@ module _ (edition : Edition) where
         lowered w (p .bits) h (eqb-true (p .bits % 2 ^ (50 - w)) 0 (sym (proper-number w (p .bits) h) ∙ proper))
 
     -- the state taken apart and put together
-    pub entered : {l : Lock} {w n : ℕ} → l ≡ lockIn (unpacked p) → w ≡ p .waiting → n ≡ p .bits / 2 ^ (50 - p .waiting) → (stop : Bool) (bits : List ℕ)
-        → goesOn edition stop bits 0 noBlocks 0 (stateOf l w (placesOf w n)) ≡ goesOn edition stop bits 0 noBlocks 0 (unpacked p)
-    entered el ew en stop bits = rw (el, ew, en, ← in-places)
+    pub entered : {l : Lock} {w n : ℕ} → l ≡ lockIn (unpacked p) → w ≡ p .waiting → n ≡ p .bits / 2 ^ (50 - p .waiting) → (until : Until) (bits : List ℕ)
+        → goesOn edition until bits 0 noBlocks 0 (stateOf l w (placesOf w n)) ≡ goesOn edition until bits 0 noBlocks 0 (unpacked p)
+    entered el ew en until bits = rw (el, ew, en, ← in-places)
 
   -- the test for passing over, and what it comes to
   module _ (l : Lock) (w : Read) (t : Bool) (e : t ≡ (eqb (l .mode) hunting && not (isGood w))) where
@@ -101,19 +102,19 @@ module _ (edition : Edition) where
   -- ---- one bit
 
   -- what goes on from the same lock, number and counts is the same
-  pub goes-same : (stop : Bool) (bs : List ℕ) (fed passed : ℕ) {l k : Lock} {w v n m : ℕ} {a b : Blocks} → l ≡ k → w ≡ v → n ≡ m → a ≡ b
-      → goesOn edition stop bs fed a passed (stateOf l w (placesOf w n)) ≡ goesOn edition stop bs fed b passed (stateOf k v (placesOf v m))
-  goes-same stop bs fed passed el ew en eb = rw (el, ew, en, eb)
+  pub goes-same : (until : Until) (bs : List ℕ) (fed passed : ℕ) {l k : Lock} {w v n m : ℕ} {a b : Blocks} → l ≡ k → w ≡ v → n ≡ m → a ≡ b
+      → goesOn edition until bs fed a passed (stateOf l w (placesOf w n)) ≡ goesOn edition until bs fed b passed (stateOf k v (placesOf v m))
+  goes-same until bs fed passed el ew en eb = rw (el, ew, en, eb)
 
-  module _ (stop : Bool) (fed : ℕ) (blocks : Blocks) (passed b : ℕ) (bs : List ℕ) (bit : b < 2) (l : Lock) (w n v : ℕ) (d : v ≡ n * 2 + b) where
+  module _ (until : Until) (fed : ℕ) (blocks : Blocks) (passed b : ℕ) (bs : List ℕ) (bit : b < 2) (l : Lock) (w n v : ℕ) (d : v ≡ n * 2 + b) where
     filled : w < 50 → set (placesOf w n) w b ≡ placesOf (w + 1) v
     filled h = rw d (joins w n b h bit)
 
     pub more-wait : w < 49
-        → goesOn edition stop (b ∷ bs) fed blocks passed (stateOf l w (placesOf w n)) ≡ goesOn edition stop bs (fed + 1) blocks passed (stateOf l (w + 1) (placesOf (w + 1) v))
+        → goesOn edition until (b ∷ bs) fed blocks passed (stateOf l w (placesOf w n)) ≡ goesOn edition until bs (fed + 1) blocks passed (stateOf l (w + 1) (placesOf (w + 1) v))
     more-wait h =
-        on-waits edition stop fed blocks passed b bs bit l w (placesOf w n) h
-        ∙ ap (λ (t : List ℕ). goesOn edition stop bs (fed + 1) blocks passed (stateOf l (w + 1) t)) (filled (omega arith))
+        on-waits edition until fed blocks passed b bs bit l w (placesOf w n) h
+        ∙ ap (λ (t : List ℕ). goesOn edition until bs (fed + 1) blocks passed (stateOf l (w + 1) t)) (filled (omega arith))
 
     module _ (h : w + 1 ≡ 50) (j : Judged) (e : j ≡ judgedBy edition l (readOf (bitsOf 50 v))) where
       window : set (placesOf w n) w b ≡ bitsOf 50 v
@@ -123,22 +124,22 @@ module _ (edition : Edition) where
       judged = e ∙ sym (ap (λ (t : List ℕ). judgedBy edition l (readOf t)) window)
 
       pub goes-over : j ≡ passedOver l
-          → goesOn edition stop (b ∷ bs) fed blocks passed (stateOf l w (placesOf w n)) ≡ goesOn edition stop bs (fed + 1) blocks (passed + 1) (stateOf l 49 (placesOf 49 (v % 2 ^ 49)))
+          → goesOn edition until (b ∷ bs) fed blocks passed (stateOf l w (placesOf w n)) ≡ goesOn edition until bs (fed + 1) blocks (passed + 1) (stateOf l 49 (placesOf 49 (v % 2 ^ 49)))
       goes-over k =
           rw (k, plus-none blocks, window, passes v)
-          at (on-judges edition stop fed blocks passed b bs bit l w (placesOf w n) (omega arith) j judged (λ _. rw k (same-lock (l .mode))))
+          at (on-judges edition until fed blocks passed b bs bit l w (placesOf w n) (omega arith) j judged (rw k (runs-same until l)))
 
       module _ (k : j .passed ≡ 0) where
-        pub goes-on : (stop ≡ true → sameLock (l .mode) (j .lock .mode) ≡ true)
-            → goesOn edition stop (b ∷ bs) fed blocks passed (stateOf l w (placesOf w n))
-            ≡ goesOn edition stop bs (fed + 1) (plus blocks (j .blocks)) passed (stateOf (j .lock) 0 (placesOf 0 0))
-        goes-on same =
+        pub goes-on : runsOn until l (j .lock) ≡ true
+            → goesOn edition until (b ∷ bs) fed blocks passed (stateOf l w (placesOf w n))
+            ≡ goesOn edition until bs (fed + 1) (plus blocks (j .blocks)) passed (stateOf (j .lock) 0 (placesOf 0 0))
+        goes-on on =
             rw (k, add-zero passed, ← used-up)
-            at (on-judges edition stop fed blocks passed b bs bit l w (placesOf w n) (omega arith) j judged same)
+            at (on-judges edition until fed blocks passed b bs bit l w (placesOf w n) (omega arith) j judged on)
 
-        pub ends-here : stop ≡ true → sameLock (l .mode) (j .lock .mode) ≡ false
-            → goesOn edition stop (b ∷ bs) fed blocks passed (stateOf l w (placesOf w n))
+        pub ends-here : runsOn until l (j .lock) ≡ false
+            → goesOn edition until (b ∷ bs) fed blocks passed (stateOf l w (placesOf w n))
             ≡ withFed (packedRan (ended 0 (plus blocks (j .blocks)) passed (stateOf (j .lock) 0 (placesOf 0 0)))) (fed + 1)
-        ends-here stops change =
+        ends-here change =
             rw (k, add-zero passed, ← used-up)
-            at (on-ends edition stop fed blocks passed b bs bit l w (placesOf w n) (omega arith) j judged stops change)
+            at (on-ends edition until fed blocks passed b bs bit l w (placesOf w n) (omega arith) j judged change)

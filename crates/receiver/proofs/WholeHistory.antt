@@ -23,7 +23,7 @@ use Rattle.receiver.proofs.StaysProper.{Proper, step-proper, run-proper
 
 -- ---- one run
 
-before-bits : (bs : List ℕ) → Bits (bitsBefore bs)
+pub before-bits : (bs : List ℕ) → Bits (bitsBefore bs)
 unfolding bitsBefore
 before-bits [] = tt
 before-bits (b ∷ bs) = cond-elim Bits (ltb b 2) (λ e. (ltb-true b 2 e, before-bits bs)) (λ _. tt)
@@ -51,7 +51,7 @@ module _ (edition : Edition) where
   after-proper s [] h p = p
   after-proper s (b ∷ l) h p = after-proper (stepOf edition s b .next) l (h .1) (step-proper edition s b (h .0) p)
 
-  from-after : (bs : List ℕ) (blocks : Blocks) (passed : ℕ) (s : State) → runFrom edition bs blocks passed s .state ≡ afterFrom edition s (bitsBefore bs)
+  pub from-after : (bs : List ℕ) (blocks : Blocks) (passed : ℕ) (s : State) → runFrom edition bs blocks passed s .state ≡ afterFrom edition s (bitsBefore bs)
   unfolding runFrom bitsBefore afterFrom
   from-after [] blocks passed s = refl
   from-after (b ∷ bs) blocks passed s =

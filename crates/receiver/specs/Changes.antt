@@ -1,7 +1,8 @@
--- A run that ends where lock comes or goes, and how many bits it fed (01, "The receiver program": lock comes and goes with a bit).
+-- A run that ends where lock comes or goes, or also where the kind of the time changes, and how many bits it fed (01, "The receiver
+-- program": lock comes and goes with a bit; 02, No. 11: so does the way in which the time stands).
 -- Assumes nothing.
 use Prim.Native.Nat.{ℕ, _+_}
-use mathlib.Core.Bool.{Bool, true, cond, not}
+use mathlib.Core.Bool.{Bool, true, cond, not, _&&_}
 use mathlib.Core.List.{List, [], _∷_}
 use lib.Dec.{eqb, ltb}
 use lib.ListN.{length}
@@ -10,11 +11,15 @@ use Rattle.refusal.specs.declared.Refusal.{Refusal}
 use Rattle.refusal.specs.declared.Refusal.the-variants.{RunTooLong, Improper}
 use Rattle.record.specs.declared.Edition.{Edition}
 use Rattle.locking.specs.declared.Blocks.{Blocks}
+use Rattle.locking.specs.declared.Lock.{Lock}
 use Rattle.locking.specs.Locks.{locked}
 use Rattle.receiver.specs.declared.PackedRan.{PackedRan}
 use Rattle.receiver.specs.declared.PackedState.{PackedState}
 use Rattle.receiver.specs.declared.State.{State}
 use Rattle.receiver.specs.declared.Stretch.{Stretch}
+use Rattle.receiver.specs.declared.Until.{Until}
+use Rattle.receiver.specs.declared.Until.the-variants.{LastBit, LockChange, AnyChange}
+use Rattle.receiver.specs.States.{lockIn}
 use Rattle.receiver.specs.Steps.{stepOf}
 use Rattle.receiver.specs.Runs.{runFrom, runOf}
 use Rattle.receiver.specs.History.{bitsBefore}
@@ -24,16 +29,19 @@ use Rattle.receiver.specs.Packed.{unpacked, packedProper, packedRan, ref
 unfoldable pub sameLock : ℕ → ℕ → Bool
 sameLock before after = cond (eqb before locked) (eqb after locked) (not (eqb after locked))
 
--- the bits up to and with the one with which lock comes or goes; all of them where it does neither
-unfoldable pub toChange : Edition → State → List ℕ → List ℕ
-toChange edition s [] = []
-toChange edition s (b ∷ bs) =
-    let t : State = stepOf edition s b .next in
-    b ∷ cond (sameLock (s .mode) (t .mode)) (toChange edition t bs) []
+-- behind a bit with these locks before and after it a run goes on: where it is to end with its last bit only, always; else where lock
+-- neither comes nor goes, or where besides the kind of the time stays
+unfoldable pub runsOn : Until → Lock → Lock → Bool
+runsOn LastBit before after = true
+runsOn LockChange before after = sameLock (before .mode) (after .mode)
+runsOn AnyChange before after = sameLock (before .mode) (after .mode) && eqb (before .time .kind) (after .time .kind)
 
--- the bits that a run is made of: up to the change, if it is to stop there, or all
-abbrev pub upTo : Edition → Bool → State → List ℕ → List ℕ
-upTo edition stop s bs = cond stop (toChange edition s bs) bs
+-- the bits that a run is made of: up to and with the one behind which it does not go on, or all
+unfoldable pub upTo : Edition → Until → State → List ℕ → List ℕ
+upTo edition until s [] = []
+upTo edition until s (b ∷ bs) =
+    let t : State = stepOf edition s b .next in
+    b ∷ cond (runsOn until (lockIn s) (lockIn t)) (upTo edition until t bs) []
 
 -- a run, and how many bits it fed
 abbrev pub withFed : PackedRan → ℕ → Stretch
@@ -49,11 +57,8 @@ refusedStretch why p = withFed (refusedPacked (numberOf why) p) 0
 
 -- More than 65,536 bits get 9, then a state that is not proper 10. Else it is the run of the bits up to where it stops; those
 -- before the first that is no bit are fed
-unfoldable pub stretchOf : Edition → Bool → PackedState → List ℕ → Stretch
-stretchOf edition stop p bs =
-    let fed : List ℕ = upTo edition stop (unpacked p) bs in
+unfoldable pub stretchOf : Edition → Until → PackedState → List ℕ → Stretch
+stretchOf edition until p bs =
+    let fed : List ℕ = upTo edition until (unpacked p) bs in
     cond (ltb 65536 (length bs)) (refusedStretch RunTooLong p)
     (cond (packedProper edition p) (withFed (packedRan (runOf edition (unpacked p) fed)) (length (bitsBefore fed))) (refusedStretch Improper p))
-
-abbrev pub runToChange : Edition → PackedState → List ℕ → Stretch
-runToChange edition p bs = stretchOf edition true p bs

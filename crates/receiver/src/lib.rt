@@ -2,24 +2,24 @@
 mod states;
 mod windows;
 
-ghost use mathlib.Core.Bool.{true, _&&_, not};
+ghost use mathlib.Core.Bool.{true, not};
 ghost use mathlib.Core.Path.{_≡_};
 ghost use Prim.Native.Nat.{_≤_, _<_, _+_, _-_, _*_, _^_};
 ghost use lib.ListN.{length};
 ghost use Rattle.refusal.specs.Numbers.{numberOf};
 ghost use Rattle.locking.specs.Modes.{noBlocks};
-ghost use Rattle.receiver.specs.Changes.{sameLock, upTo, withFed, stretchFrom, stretchOf, runToChange};
+ghost use Rattle.receiver.specs.Changes.{sameLock, runsOn, upTo, withFed, stretchFrom, stretchOf};
 ghost use Rattle.receiver.specs.Packed.{freshPacked, unpacked, packedProper, endedPacked, runPacked, fedPacked};
-ghost use Rattle.receiver.specs.Runs.{plus, countsOf, runOf, fedOf};
+ghost use Rattle.receiver.specs.Runs.{later, plus, countsOf, runOf, fedOf};
 ghost use Rattle.receiver.specs.States.{freshOf};
 use block::Packed;
 use block::read_by;
 use locking::Blocks;
+use locking::Lock;
 use locking::judge;
 use record::Edition;
 use record::Record;
 use refusal::Refusal;
-use states::is_proper;
 use states::kept;
 use states::lock_in;
 use states::packed_of;
@@ -30,6 +30,7 @@ use windows::empty;
 use windows::is_passed_over;
 use windows::join;
 use windows::move_on;
+use windows::weight;
 use windows::window_in;
 
 // The state, as it is lent: plain numbers, and what is not in use is 0.
@@ -80,6 +81,14 @@ pub struct PackedRan {
     pub state: PackedState,
 }
 
+// Where a run ends: with its last bit, or before it with the bit with which lock comes or goes, or with one with which that or the
+// kind of the time changes.
+pub enum Until {
+    LastBit,
+    LockChange,
+    AnyChange,
+}
+
 // A run, and how many bits it fed.
 pub struct Stretch {
     pub ran: PackedRan,
@@ -91,6 +100,25 @@ pub fn fresh_packed() -> PackedState
     ensures { λ p. ⌜ p ≡ freshPacked ⌝ }
 {
     packed_of(locking::fresh_lock(), 0, 0)
+}
+
+// Whether a state is proper, by the edition of the call.
+pub fn is_proper(edition: Edition, state: PackedState) -> bool
+    ensures { λ t. ⌜ t ≡ packedProper edition state ⌝ }
+{
+    let waiting = state.waiting as u32;
+    let bits = state.bits;
+    if 0x3_FFFF_FFFF_FFFF < bits {
+        return false;
+    }
+    if 49 < waiting {
+        return false;
+    }
+    if bits % weight(waiting) == 0 {
+        locking::is_proper(edition, lock_in(state))
+    } else {
+        false
+    }
 }
 
 // Where a run ends. Of the bits that had waited and were fed each block took fifty; the others wait or were passed over.
@@ -135,39 +163,61 @@ fn no_blocks() -> Blocks
     }
 }
 
-// Blocks one after the other: of two remainders the later one, but 0 tells nothing.
+// Of two remainders the later one, but 0 tells nothing.
+pub fn later(before: u16, after: u16) -> u16
+    ensures { λ r. ⌜ r ≡ later before after ⌝ }
+{
+    if after == 0 {
+        return before;
+    }
+    after
+}
+
+// Blocks one after the other.
 fn more(before: Blocks, after: Blocks) -> Blocks
     requires { ⌜ (before .good + after .good < 2 ^ 32) × (before .bad + after .bad < 2 ^ 32) ⌝ }
     ensures { λ b. ⌜ b ≡ plus before after ⌝ }
 {
-    let mut remainder = after.remainder;
-    if after.remainder == 0 {
-        remainder = before.remainder;
-    }
     Blocks {
         good: before.good + after.good,
         bad: before.bad + after.bad,
-        remainder,
+        remainder: later(before.remainder, after.remainder),
     }
 }
 
-// Whether a run ends here: it is to stop where lock changes, and it did, by the modes before and after.
-fn ends(stop: bool, before: u8, after: u8) -> bool
-    ensures { λ t. ⌜ t ≡ stop && not (sameLock before after) ⌝ }
+// Whether lock comes or goes, by the modes before and after.
+fn lock_changes(before: u8, after: u8) -> bool
+    ensures { λ t. ⌜ t ≡ not (sameLock before after) ⌝ }
 {
-    if stop {
-        if before == 2 {
-            return after != 2;
-        }
-        return after == 2;
+    if before == 2 {
+        return after != 2;
     }
-    false
+    after == 2
+}
+
+// Whether a run ends here, by the locks before and after.
+fn ends(until: Until, before: Lock, after: Lock) -> bool
+    ensures { λ t. ⌜ t ≡ not (runsOn until before after) ⌝ }
+{
+    let changes = lock_changes(before.mode, after.mode);
+    match until {
+        Until::LastBit => false,
+        Until::LockChange => changes,
+        Until::AnyChange => {
+            if changes {
+                return true;
+            }
+            let held = before.time;
+            let holds = after.time;
+            held.kind != holds.kind
+        }
+    }
 }
 
 // The bits one after the other. The circuit turns once for each; a full window is passed over by one bit, or judged and used up.
-fn feed_all(edition: Edition, state: PackedState, bits: &[u8], stop: bool) -> Stretch
+fn feed_all(edition: Edition, state: PackedState, bits: &[u8], until: Until) -> Stretch
     requires { ⌜ (packedProper edition state ≡ true) × (length (now bits) ≤ 65536) ⌝ }
-    ensures { λ r. ⌜ r ≡ stretchFrom edition (upTo edition stop (unpacked state) (now (bits .entry))) 0 noBlocks 0 (unpacked state) ⌝ }
+    ensures { λ r. ⌜ r ≡ stretchFrom edition (upTo edition until (unpacked state) (now (bits .entry))) 0 noBlocks 0 (unpacked state) ⌝ }
 {
     let mut lock = lock_in(state);
     let mut window = window_in(state);
@@ -189,11 +239,11 @@ fn feed_all(edition: Edition, state: PackedState, bits: &[u8], stop: bool) -> St
                 let judged = judge(edition, lock, read_by(window.bits, left as u16));
                 let one = judged.blocks;
                 blocks = more(blocks, one);
-                let before = lock.mode;
+                let before = lock;
                 let next = judged.lock;
                 lock = next;
                 window = empty();
-                if ends(stop, before, lock.mode) {
+                if ends(until, before, next) {
                     return counted(0, blocks, waited, i + 1, kept(lock, window));
                 }
             }
@@ -203,9 +253,9 @@ fn feed_all(edition: Edition, state: PackedState, bits: &[u8], stop: bool) -> St
     counted(0, blocks, waited, i, kept(lock, window))
 }
 
-// A run of all the bits or, where it is to stop there, of those up to the one with which lock changes.
-fn limited(edition: Edition, state: PackedState, bits: &[u8], stop: bool) -> Stretch
-    ensures { λ r. ⌜ r ≡ stretchOf edition stop state (now (bits .entry)) ⌝ }
+// A run of the bits up to where it is to end.
+pub fn run_until(edition: Edition, state: PackedState, bits: &[u8], until: Until) -> Stretch
+    ensures { λ r. ⌜ r ≡ stretchOf edition until state (now (bits .entry)) ⌝ }
 {
     let long = 65536 < bits.len();
     let improper = !is_proper(edition, state);
@@ -223,22 +273,15 @@ fn limited(edition: Edition, state: PackedState, bits: &[u8], stop: bool) -> Str
         };
         return Stretch { ran, fed: 0 };
     }
-    feed_all(edition, state, bits, stop)
+    feed_all(edition, state, bits, until)
 }
 
-// A run of bits, by value.
+// A run of all the bits, by value.
 pub fn run_packed(edition: Edition, state: PackedState, bits: &[u8]) -> PackedRan
     ensures { λ r. ⌜ r ≡ runPacked edition state (now (bits .entry)) ⌝ }
 {
-    let all = limited(edition, state, bits, false);
+    let all = run_until(edition, state, bits, Until::LastBit);
     all.ran
-}
-
-// A run that ends with the bit with which lock comes or goes, or with the last bit.
-pub fn run_to_change(edition: Edition, state: PackedState, bits: &[u8]) -> Stretch
-    ensures { λ r. ⌜ r ≡ runToChange edition state (now (bits .entry)) ⌝ }
-{
-    limited(edition, state, bits, true)
 }
 
 // One bit, by value: the run of that bit alone.

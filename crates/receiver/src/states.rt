@@ -1,7 +1,7 @@
-// The state in both layouts, taken apart and put together, and the test for a proper one.
+// The state in both layouts, taken apart and put together.
 ghost use mathlib.Core.Path.{_≡_};
 ghost use Prim.Native.Nat.{_<_, _≤_, _-_, _*_, _^_};
-ghost use Rattle.receiver.specs.Packed.{packedOf, unpacked, packedProper};
+ghost use Rattle.receiver.specs.Packed.{packedOf, unpacked};
 ghost use Rattle.receiver.specs.States.{lockIn};
 ghost use Rattle.receiver.specs.Windows.{Turned};
 use crate::PackedState;
@@ -9,7 +9,6 @@ use crate::State;
 use crate::windows::Window;
 use crate::windows::weight;
 use locking::Lock;
-use record::Edition;
 use timekeeping::Time;
 
 pub fn lock_in(state: PackedState) -> Lock
@@ -56,24 +55,6 @@ pub fn kept(lock: Lock, window: Window) -> PackedState
         window.waiting as u8,
         window.bits * weight(window.waiting),
     )
-}
-
-pub fn is_proper(edition: Edition, state: PackedState) -> bool
-    ensures { λ t. ⌜ t ≡ packedProper edition state ⌝ }
-{
-    let waiting = state.waiting as u32;
-    let bits = state.bits;
-    if 0x3_FFFF_FFFF_FFFF < bits {
-        return false;
-    }
-    if 49 < waiting {
-        return false;
-    }
-    if bits % weight(waiting) == 0 {
-        locking::is_proper(edition, lock_in(state))
-    } else {
-        false
-    }
 }
 
 // A state of fifty places, whose bits are this number.

@@ -15,11 +15,11 @@ use Rattle.receive.proofs.feed_all.Statement.{statement}
 use Rattle.receive.proofs.feed_all.Tie as tie
 
 abbrev Inv-loop : tie.InvT-loop
-Inv-loop bits more kept₀ sound₀ i₀ kept sound i =
+Inv-loop bits piece kept₀ sound₀ i₀ kept sound i =
     (i ≤ length bits) × (packedProper edition (kept .state) ≡ true) × (keptAfter kept (drop i bits) ≡ keptAfter kept₀ bits)
 
 abbrev μ-loop : tie.MeasureT-loop
-μ-loop bits more kept₀ sound₀ i₀ kept sound i = length bits - i
+μ-loop bits piece kept₀ sound₀ i₀ kept sound i = length bits - i
 
 loop-holds : tie.Need-loop-holds Inv-loop μ-loop
 loop-holds c = (omega arith, c .before .pre .0, refl)

@@ -12,10 +12,10 @@ use Rattle.receive.proofs.main.Statement.{statement}
 use Rattle.receive.proofs.main.Tie as tie
 
 abbrev Inv-loop : tie.InvT-loop
-Inv-loop piece₀ turns₀ piece turns = packedProper edition (piece .kept .state) ≡ true
+Inv-loop progress₀ turns₀ progress turns = packedProper edition (progress .kept .state) ≡ true
 
 abbrev μ-loop : tie.MeasureT-loop
-μ-loop piece₀ turns₀ piece turns = turns
+μ-loop progress₀ turns₀ progress turns = turns
 
 fresh-requires : tie.Need-fresh-requires Inv-loop μ-loop
 fresh-requires c κs = tt

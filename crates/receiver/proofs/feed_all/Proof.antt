@@ -2,6 +2,7 @@
 -- run, and the register of the window holds what its bits leave. The bits passed over are not counted: they make up the balance.
 -- Assumes nothing.
 use borrow.Author.Needs.{needs}
+use borrow.Author.Tests.{not-true, not-false}
 use mathlib.Core.Bool.{true}
 use mathlib.Core.Logic.{⊎-elim}
 use mathlib.Core.Path.{_≡_, refl, sym, ap, _∙_, subst}
@@ -20,14 +21,14 @@ use Rattle.receiver.specs.declared.State.{State}
 use Rattle.receiver.specs.declared.windows.Window.{Window}
 use Rattle.receiver.specs.States.{stateOf}
 use Rattle.receiver.specs.Runs.{plus}
-use Rattle.receiver.specs.Changes.{sameLock}
+use Rattle.receiver.specs.Changes.{runsOn}
 use Rattle.receiver.specs.Windows.{Turned}
 use Rattle.receiver.proofs.Balance.{MadeUp}
 use Rattle.receiver.proofs.First.{fifty}
 use Rattle.receiver.proofs.StaysProper.{bits-and-lock}
 use Rattle.receiver.proofs.Layouts.{proper-small, proper-unpacked}
 use Rattle.receiver.proofs.Numbers.{placesOf}
-use Rattle.receiver.proofs.Running.{goesOn, went-on, stopped, on-done, on-stops}
+use Rattle.receiver.proofs.Running.{goesOn, on-done, on-stops}
 use Rattle.receiver.proofs.Turning.{entered, few, put-back, reads, is-over, not-over, goes-same, more-wait, goes-over, goes-on, ends-here}
 use Rattle.receiver.proofs.feed_all.Statement.{statement}
 use Rattle.receiver.proofs.feed_all.Tie as tie
@@ -43,13 +44,13 @@ abbrev number : Window → ℕ
 number w = w .bits
 
 abbrev Inv-loop : tie.InvT-loop
-Inv-loop edition bits stop lock₀ window₀ waited blocks₀ i₀ lock window blocks i =
+Inv-loop edition bits until lock₀ window₀ waited blocks₀ i₀ lock window blocks i =
     (i ≤ length bits) × (window .waiting < 50) × Turned window × (lockProper edition lock ≡ true) × (waited + length bits ≤ 65585)
     × ((passed : ℕ) × MadeUp (waited + i) blocks passed (window .waiting)
-    × (goesOn edition stop (drop i bits) i blocks passed (held lock window) ≡ goesOn edition stop bits 0 noBlocks 0 (held lock₀ window₀)))
+    × (goesOn edition until (drop i bits) i blocks passed (held lock window) ≡ goesOn edition until bits 0 noBlocks 0 (held lock₀ window₀)))
 
 abbrev μ-loop : tie.MeasureT-loop
-μ-loop edition bits stop lock₀ window₀ waited blocks₀ i₀ lock window blocks i = length bits - i
+μ-loop edition bits until lock₀ window₀ waited blocks₀ i₀ lock window blocks i = length bits - i
 
 -- the bits passed over are what is left of them
 passed-is : (n : ℕ) (blocks : Blocks) (passed w : ℕ) → MadeUp n blocks passed w → n - 50 * (blocks .good + blocks .bad) - w ≡ passed
@@ -104,12 +105,12 @@ returns c =
     let lock = window .before in
     let start = lock .before .before in
     let bits = start .args .bits .now in
-    let stop = start .args .stop in
+    let until = start .args .until in
     let w = window .window-in .ensures in
     let whole = rw (next bits (at .loop .i) (c .before .before .before .before .before .loop-test .taken)) at (at .loop .inv .5 .2) in
     let no-bit : 2 ≤ getD bits (at .loop .i) 0 = omega (arith, c .before .before .before .if1 .taken) in
     rw (c .counted .ensures, c .before .kept .ensures, passed-is _ (at .loop .blocks) _ _ (at .loop .inv .5 .1), c .before .before .number .ensures, put-back (at .loop .lock) _ _ (at .loop .inv .2 .0))
-    (sym (on-stops _ stop (at .loop .i) _ _ _ _ _ no-bit) ∙ whole ∙ entered (start .args .edition) (start .args .state) (start .pre .0) (lock .lock-in .ensures) (w .0) (w .1) stop bits)
+    (sym (on-stops _ until (at .loop .i) _ _ _ _ _ no-bit) ∙ whole ∙ entered (start .args .edition) (start .args .state) (start .pre .0) (lock .lock-in .ensures) (w .0) (w .1) until bits)
 
 join-requires : tie.Need-join-requires Inv-loop μ-loop
 join-requires c κs = let inv = c .before .before .before .loop .inv in (inv .1, omega (arith, c .if1 .left), inv .2)
@@ -177,7 +178,7 @@ returns-2 c =
     let lock = at .before .before .before in
     let start = lock .before .before in
     let bits = start .args .bits .now in
-    let stop = start .args .stop in
+    let until = start .args .until in
     let window = at .before .before .window-in .ensures in
     let l = at .loop .lock in
     let v = joined .join .result in
@@ -188,13 +189,13 @@ returns-2 c =
     let e = judge .judge .ensures ∙ ap (judgedBy (start .args .edition) l) (judge .before .read-by .ensures ∙ reads (v .bits) _ (f .0) (over .before .behind-first .ensures)) in
     let none = ap (λ (j : Judged). j .passed) e ∙ not-over _ l _ _ (over .is-passed-over .ensures) (judge .before .before .if3 .left) in
     let whole = rw (next bits (at .loop .i) (joined .before .before .before .loop-test .taken)) at (at .loop .inv .5 .2) in
-    let change = stopped stop (sameLock (l .mode) (j .lock .mode)) (end .ends .result) (end .ends .ensures) (c .before .before .if4 .taken) in
+    let change = not-true (runsOn until l (j .lock)) (sym (end .ends .ensures) ∙ c .before .before .if4 .taken) in
     let nothing = end .before .empty .ensures in
     let made : MadeUp (at .before .before .window-in .result .waiting + (at .loop .i + 1)) (plus (at .loop .blocks) (j .blocks)) (at .loop .inv .5 .0) (end .before .empty .result .waiting) =
     omega (arith, at .loop .inv .5 .1, grown .0, full .if2 .taken, counts-one _ _ _ (judge .judge .ensures), none, nothing .0) in
     rw (c .counted2 .ensures, c .before .kept2 .ensures, end .before .before .before .more .ensures, passed-is _ (plus (at .loop .blocks) (j .blocks)) _ _ made, put-back (j .lock) _ _ (nothing .2 .0), nothing .0, nothing .1)
-    (sym (ends-here _ stop (at .loop .i) _ _ _ _ b l _ _ (v .bits) (grown .1) (sym (grown .0) ∙ full .if2 .taken) j e none (change .0) (change .1))
-    ∙ whole ∙ entered (start .args .edition) (start .args .state) (start .pre .0) (lock .lock-in .ensures) (window .0) (window .1) stop bits)
+    (sym (ends-here _ until (at .loop .i) _ _ _ _ b l _ _ (v .bits) (grown .1) (sym (grown .0) ∙ full .if2 .taken) j e none change)
+    ∙ whole ∙ entered (start .args .edition) (start .args .state) (start .pre .0) (lock .lock-in .ensures) (window .0) (window .1) until bits)
 
 add-i : tie.Need-add-i Inv-loop μ-loop
 add-i c = omega arith
@@ -208,7 +209,7 @@ loop-again c =
     let at = joined .before .before .before .before in
     let start = at .before .before .before .before .before in
     let bits = start .args .bits .now in
-    let stop = start .args .stop in
+    let until = start .args .until in
     let inv = at .loop .inv in
     let l = at .loop .lock in
     let v = joined .join .result in
@@ -228,8 +229,8 @@ loop-again c =
       (
         inv .5 .0 + 1,
         rw (o .7) (omega (arith, inv .5 .1, ap waiting (o .6), moved .0, grown .0, o .0 .taken)),
-        goes-same _ stop _ _ _ (o .5) (ap waiting (o .6) ∙ moved .0) (ap number (o .6) ∙ moved .1) (o .7)
-            ∙ sym (goes-over _ stop (at .loop .i) _ _ _ _ b l _ _ (v .bits) (grown .1) (sym (grown .0) ∙ o .0 .taken) (passedOver l) (is-over _ l _ _ (o .2 .ensures) (inv .3) (o .3 .taken)) refl) ∙ whole,
+        goes-same _ until _ _ _ (o .5) (ap waiting (o .6) ∙ moved .0) (ap number (o .6) ∙ moved .1) (o .7)
+            ∙ sym (goes-over _ until (at .loop .i) _ _ _ _ b l _ _ (v .bits) (grown .1) (sym (grown .0) ∙ o .0 .taken) (passedOver l) (is-over _ l _ _ (o .2 .ensures) (inv .3) (o .3 .taken)) refl) ∙ whole,
       ),
     ))
     (⊎-elim
@@ -238,7 +239,7 @@ loop-again c =
     let j = u .5 .result in
     let e = u .5 .ensures ∙ ap (judgedBy (start .args .edition) l) (u .4 .ensures ∙ reads (v .bits) _ (f .0) (u .1 .ensures)) in
     let none = ap (λ (j : Judged). j .passed) e ∙ not-over _ l _ _ (u .2 .ensures) (u .3 .left) in
-    let same = went-on stop (sameLock (l .mode) (j .lock .mode)) (u .10 .result) (u .10 .ensures) (u .11 .left) in
+    let on = not-false (runsOn until l (j .lock)) (sym (u .10 .ensures) ∙ u .11 .left) in
     let nothing = u .9 .ensures in
     let added = u .14 ∙ u .7 .ensures in (
       here,
@@ -249,8 +250,8 @@ loop-again c =
       (
         inv .5 .0,
         rw added (omega (arith, inv .5 .1, ap waiting (u .13), nothing .0, grown .0, u .0 .taken, counts-one _ _ _ (u .5 .ensures), none)),
-        goes-same _ stop _ _ _ (u .12) (ap waiting (u .13) ∙ nothing .0) (ap number (u .13) ∙ nothing .1) added
-            ∙ sym (goes-on _ stop (at .loop .i) _ _ _ _ b l _ _ (v .bits) (grown .1) (sym (grown .0) ∙ u .0 .taken) j e none same) ∙ whole,
+        goes-same _ until _ _ _ (u .12) (ap waiting (u .13) ∙ nothing .0) (ap number (u .13) ∙ nothing .1) added
+            ∙ sym (goes-on _ until (at .loop .i) _ _ _ _ b l _ _ (v .bits) (grown .1) (sym (grown .0) ∙ u .0 .taken) j e none on) ∙ whole,
       ),
     ))
     (λ k. (
@@ -262,8 +263,8 @@ loop-again c =
       (
         inv .5 .0,
         rw (k .3) (omega (arith, inv .5 .1, ap waiting (k .2), grown .0)),
-        goes-same _ stop _ _ _ (k .1) (ap waiting (k .2) ∙ grown .0) (ap number (k .2)) (k .3)
-            ∙ sym (more-wait _ stop (at .loop .i) _ _ _ _ b l _ _ (v .bits) (grown .1) (omega (arith, grown .0, k .0 .left, inv .1))) ∙ whole,
+        goes-same _ until _ _ _ (k .1) (ap waiting (k .2) ∙ grown .0) (ap number (k .2)) (k .3)
+            ∙ sym (more-wait _ until (at .loop .i) _ _ _ _ b l _ _ (v .bits) (grown .1) (omega (arith, grown .0, k .0 .left, inv .1))) ∙ whole,
       ),
     )))
     (c .if2 .came)
@@ -282,11 +283,11 @@ returns-3 c =
     let lock = at .before .before .before in
     let start = lock .before .before in
     let bits = start .args .bits .now in
-    let stop = start .args .stop in
+    let until = start .args .until in
     let window = at .before .before .window-in .ensures in
     let whole = rw (drop-of-length-le bits (c .before .before .loop-test .left)) at (at .loop .inv .5 .2) in
     rw (c .counted3 .ensures, c .before .kept3 .ensures, passed-is _ (at .loop .blocks) _ _ (at .loop .inv .5 .1), put-back (at .loop .lock) _ _ (at .loop .inv .2 .0))
-    (sym (on-done _ stop (at .loop .i) _ _ _) ∙ whole ∙ entered (start .args .edition) (start .args .state) (start .pre .0) (lock .lock-in .ensures) (window .0) (window .1) stop bits)
+    (sym (on-done _ until (at .loop .i) _ _ _) ∙ whole ∙ entered (start .args .edition) (start .args .state) (start .pre .0) (lock .lock-in .ensures) (window .0) (window .1) until bits)
 
 pub feed-all-spec : {M : Type 1} → statement M
 feed-all-spec =

@@ -6,16 +6,17 @@ use mathlib.Core.Path.{ap}
 use Prim.Native.Nat.{ℕ, _<_}
 use native.Mathlib.Omega.{arith}
 use lib.ListN.{length}
+use Rattle.receiver.specs.declared.Until.the-variants.{LockChange}
 use Rattle.receiver.specs.Packed.{unpacked}
-use Rattle.receiver.specs.Changes.{toChange}
-use Rattle.receiver.proofs.Changes.{change-bits, bits-taken}
+use Rattle.receiver.specs.Changes.{upTo}
+use Rattle.receiver.proofs.Changes.{up-to-some, up-to-bits, bits-taken}
 use Rattle.receive.specs.Totals.{edition, heardOf}
-use Rattle.receive.proofs.Hearing.{change-some, said-last, after-run}
+use Rattle.receive.proofs.Hearing.{said-last, after-run}
 use Rattle.receive.proofs.totals.hear.Statement.{statement}
 use Rattle.receive.proofs.totals.hear.Tie as tie
 
-run-to-change-requires : tie.Need-run-to-change-requires
-run-to-change-requires c κs = search needs
+run-until-requires : tie.Need-run-until-requires
+run-until-requires c κs = search needs
 
 wrapping-add-u64-requires : tie.Need-wrapping-add-u64-requires
 wrapping-add-u64-requires c κs = search needs
@@ -40,9 +41,9 @@ returns c =
     let start = ran .before .before .before in
     let k = start .args .kept in
     let bits = start .args .bits .now in
-    let part : List ℕ = toChange edition (unpacked (k .state)) bits in
-    let some : 0 < length part = change-some (unpacked (k .state)) bits (start .pre .2) in
-    let fed = change-bits edition (unpacked (k .state)) bits (start .pre .1) in
+    let part : List ℕ = upTo edition LockChange (unpacked (k .state)) bits in
+    let some : 0 < length part = up-to-some edition LockChange (unpacked (k .state)) bits (start .pre .2) in
+    let fed = up-to-bits edition LockChange (unpacked (k .state)) bits (start .pre .1) in
     rw (
       said-last k bits (start .pre .1) (start .pre .0),
       after-run k part (λ e. absurd (omega (arith, ap length e))) fed (start .pre .0),
@@ -51,15 +52,15 @@ returns c =
       c .before .before .add2 .ensures,
       adds .add .ensures,
       adds .before .wrapping-add-u64 .ensures,
-      ran .run-to-change .ensures,
-      bits-taken edition (k .state) bits (start .pre .0) (start .pre .1) (start .pre .3),
+      ran .run-until .ensures,
+      bits-taken edition LockChange (k .state) bits (start .pre .0) (start .pre .1) (start .pre .3),
     )
 
 pub hear-spec : {M : Type 1} → statement M
 hear-spec =
     tie.close
     (tie.spec
-    run-to-change-requires
+    run-until-requires
     wrapping-add-u64-requires
     add-requires
     add-requires-2

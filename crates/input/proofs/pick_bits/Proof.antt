@@ -3,9 +3,9 @@
 use mathlib.Core.Logic.{⊎-elim}
 use Prim.Native.Nat.{_-_}
 use native.Mathlib.Omega.{arith}
-use Rattle.receive.proofs.Picking.{Picking, begun, skip, pick, stop, all-read}
-use Rattle.receive.proofs.input.pick_bits.Statement.{statement}
-use Rattle.receive.proofs.input.pick_bits.Tie as tie
+use Rattle.input.proofs.Picking.{Picking, begun, skip, pick, stop, all-read}
+use Rattle.input.proofs.pick_bits.Statement.{statement}
+use Rattle.input.proofs.pick_bits.Tie as tie
 
 abbrev Inv-loop : tie.InvT-loop
 Inv-loop buffer₀ n bits₀ i₀ buffer bits i = Picking buffer₀ buffer n bits i

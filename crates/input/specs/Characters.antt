@@ -6,7 +6,7 @@ use mathlib.Core.List.{List, [], _∷_, _++_}
 use mathlib.Core.Path.{_≡_}
 use lib.Dec.{eqb}
 use lib.ListN.{length, drop}
-use Rattle.receive.specs.declared.input.Picked.{Picked}
+use Rattle.input.specs.declared.Picked.{Picked}
 
 -- the characters that mean something: 0, 1 and newline
 abbrev pub nought : ℕ

@@ -9,8 +9,8 @@ use lib.Pow.{pow-pos}
 use Rattle.receiver.specs.States.{properOf}
 use Rattle.receiver.specs.Packed.{packedProper}
 use Rattle.receiver.proofs.Numbers.{proper-number}
-use Rattle.receiver.proofs.states.is_proper.Statement.{statement}
-use Rattle.receiver.proofs.states.is_proper.Tie as tie
+use Rattle.receiver.proofs.is_proper.Statement.{statement}
+use Rattle.receiver.proofs.is_proper.Tie as tie
 
 returns : tie.Need-returns
 unfolding packedProper

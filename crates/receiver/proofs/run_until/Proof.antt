@@ -1,12 +1,12 @@
--- `limited` meets its contract: a run that is too long, one from a state that is not proper, and one that is fed.
+-- `run_until` meets its contract: a run that is too long, one from a state that is not proper, and one that is fed.
 -- Assumes nothing.
 use borrow.Author.Needs.{needs}
 use borrow.Author.Tests.{ltb-false, not-true, not-false}
 use mathlib.Core.Path.{sym, _∙_}
 use Rattle.receiver.specs.Changes.{stretchOf}
 use Rattle.receiver.proofs.Changes.{stretch-is}
-use Rattle.receiver.proofs.limited.Statement.{statement}
-use Rattle.receiver.proofs.limited.Tie as tie
+use Rattle.receiver.proofs.run_until.Statement.{statement}
+use Rattle.receiver.proofs.run_until.Tie as tie
 
 is-proper-requires : tie.Need-is-proper-requires
 is-proper-requires c κs = search needs
@@ -34,10 +34,10 @@ returns-3 : tie.Need-returns-3
 returns-3 c =
     let start = c .before .before .before .before .before .args in
     let proper = sym (c .before .before .before .is-proper .ensures) ∙ not-false _ (c .before .if2 .left) in
-    c .feed-all .ensures ∙ sym (stretch-is (start .edition) (start .stop) (start .state) (start .bits .now) (ltb-false 65536 _ (c .before .before .if1 .left)) proper)
+    c .feed-all .ensures ∙ sym (stretch-is (start .edition) (start .until) (start .state) (start .bits .now) (ltb-false 65536 _ (c .before .before .if1 .left)) proper)
 
-pub limited-spec : {M : Type 1} → statement M
-limited-spec =
+pub run-until-spec : {M : Type 1} → statement M
+run-until-spec =
     tie.close
     (tie.spec
     is-proper-requires

@@ -4,21 +4,18 @@
 use Prim.Native.Nat.{ℕ, _+_, _-_, _≤_, _<_}
 use native.Mathlib.Omega.{arith}
 use native.Mathlib.Numerals.{add-one}
-use mathlib.Core.Bool.{Bool, true, false}
+use mathlib.Core.Bool.{Bool, true, false, cond}
 use mathlib.Core.List.{List, [], _∷_, _++_, append-assoc, append-nil}
-use mathlib.Core.Logic.{⊎-elim}
 use mathlib.Core.Path.{_≡_, refl, sym, ap, _∙_}
-use borrow.Author.Tests.{eq-eqb, ne-eqb}
+use borrow.Author.Tests.{eqb-true, eqb-false, eq-eqb, ne-eqb}
 use lib.ListN.{length, getD, set, take, drop, length-set, length-take, drop-of-length-le, take-append-drop}
 use lib.Dec.{eqb}
 use lib.Seq.{take-suc-set, take-at, drop-set-lt, drop-drop, getD-take, getD-drop}
 use Rattle.block.specs.Bits.{Bits}
 use Rattle.block.proofs.Strings.{next}
 use Rattle.io.specs.Counts.{Counts}
-use Rattle.record.proofs.Tests.{le-or-lt}
-use Rattle.timekeeping.proofs.Choices.{cond-elim}
-use Rattle.receive.specs.declared.input.Picked.{Picked}
-use Rattle.receive.specs.Input.{nought, one, newline, Meant, before, meant, Picks}
+use Rattle.input.specs.declared.Picked.{Picked}
+use Rattle.input.specs.Characters.{nought, one, newline, Meant, before, meant, Picks}
 
 -- ---- one character
 
@@ -29,14 +26,13 @@ module _ (c : ℕ) (cs : List ℕ) where
 
   pub digit : nought ≤ c → c ≤ one → meant (c ∷ cs) ≡ before (c - nought) (meant cs)
   unfolding meant
-  digit h k =
-      ⊎-elim
-      (λ l.
-      let e : c ≡ 48 = omega arith in
-      rw (ne-eqb c 10 (omega arith), eq-eqb c 48 e, e))
-      (λ l.
-      let e : c ≡ 49 = omega arith in
-      rw (ne-eqb c 10 (omega arith), ne-eqb c 48 (omega arith), eq-eqb c 49 e, e)) (le-or-lt c 48)
+  digit h k = by (eqb c nought) refl
+    where
+      by : (t : Bool) → eqb c nought ≡ t → meant (c ∷ cs) ≡ before (c - nought) (meant cs)
+      by true e = rw (ne-eqb c 10 (omega arith), e, eqb-true c 48 e)
+      by false e =
+          let z : c ≡ 49 = omega (arith, eqb-false c 48 e) in
+          rw (ne-eqb c 10 (omega arith), e, eq-eqb c 49 z, z)
 
   pub other : (c ≡ newline → ⊥) → (c ≡ nought → ⊥) → (c ≡ one → ⊥) → meant (c ∷ cs) ≡ record { bits = []; goesOn = false }
   unfolding meant
@@ -132,10 +128,14 @@ module _ (entry buffer : List ℕ) (n bits i : ℕ) (fits : n ≤ length entry) 
 meant-bits : (cs : List ℕ) → Bits (meant cs .bits)
 unfolding meant
 meant-bits [] = tt
-meant-bits (c ∷ cs) =
-    let P : Meant → Type 0 = λ m. Bits (m .bits) in
-    cond-elim P (eqb c newline) (λ _. meant-bits cs)
-    (λ _. cond-elim P (eqb c nought) (λ _. (omega arith, meant-bits cs)) (λ _. cond-elim P (eqb c one) (λ _. (omega arith, meant-bits cs)) (λ _. tt)))
+meant-bits (c ∷ cs) = by (eqb c newline) (eqb c nought) (eqb c one) (meant-bits cs)
+  where
+    by : (n z o : Bool) → Bits (meant cs .bits)
+        → Bits (cond n (meant cs) (cond z (before 0 (meant cs)) (cond o (before 1 (meant cs)) (record { bits = []; goesOn = false }))) .bits)
+    by true z o rest = rest
+    by false true o rest = (omega arith, rest)
+    by false false true rest = (omega arith, rest)
+    by false false false rest = tt
 
 module _ (cs entry exit : List ℕ) (p : Picked) (h : Picks cs entry p exit) where
   front : take (p .bits) exit ≡ meant cs .bits
