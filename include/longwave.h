@@ -44,8 +44,9 @@ enum {
     LW_NOT_IN_YEAR = 7,       /* week 53 in a year without one */
     LW_WRONG_YEAR = 8,        /* the first of the 28 years, or the civil or coded year of a
                                  written date, is out of range */
-    LW_RUN_TOO_LONG = 9,      /* a run is longer than 65,536 bits */
-    LW_IMPROPER = 10,         /* the lent state is not proper */
+    LW_RUN_TOO_LONG = 9,      /* a run is longer than 65,536 bits, or takes the bits that a
+                                 watch was fed past 2^64 - 1 */
+    LW_IMPROPER = 10,         /* the state or the watch is not proper */
     LW_NUMBER_TOO_WIDE = 14,  /* a number has a bit above place 49 */
     LW_WRONG_SIZE = 19,       /* a frame is not 12 long, or a field to be written is too wide */
     LW_WRONG_FIXED_BITS = 20, /* a fixed bit of a frame is wrong */
@@ -303,6 +304,58 @@ lw_counts lw_feed_packed(uint16_t edition, lw_packed_state *state, uint8_t bit);
  * those of the bits before it. */
 lw_counts lw_run_packed(uint16_t edition, lw_packed_state *state,
                         const uint8_t *bits, size_t len);
+
+/* A receiver with what is remembered of its history, so that it can be asked why
+ * a dial is blank. It belongs to the caller, who may copy it; all zeros are a
+ * fresh one. Bits count from 1: a bit is how many were fed with it.
+ *
+ * It is proper when its state is, under the edition of the call; when none of
+ * `lost`, `dropped` and `displaced` is above `fed`; when `dropped` is 0 unless the
+ * state is locked, and `displaced` is 0 unless its time is a candidate. */
+typedef struct lw_watch {
+    struct lw_packed_state state;
+    uint64_t fed;       /* bits fed since the fresh watch */
+    uint64_t lost;      /* the bit of the last loss of lock, or 0 */
+    uint64_t dropped;   /* the bit of the last time dropped since the present lock, or 0: it
+                           came to its last age while lock stayed */
+    uint64_t displaced; /* the bit that ended the block of the held candidate, where that
+                           displaced a held record, or 0 */
+} lw_watch;
+
+/* How the time stands. */
+enum {
+    LW_WHY_CONFIRMED = 1,       /* it is confirmed */
+    LW_WHY_LOCK_LOST = 2,       /* not locked: lock was lost at the bit */
+    LW_WHY_NEVER_LOCKED = 3,    /* not locked, and never was */
+    LW_WHY_BLOCK_MISSING = 4,   /* locked, no time: it was dropped at the bit, since the
+                                   expected block did not come */
+    LW_WHY_NO_USABLE_BLOCK = 5, /* locked, no time: no usable block came since lock */
+    LW_WHY_NOT_NEXT_MINUTE = 6, /* a candidate, whose block displaced a held record at the bit:
+                                   it was not the next minute, nor two to four minutes later */
+    LW_WHY_TOO_YOUNG = 7        /* a candidate, which nothing confirms yet */
+};
+
+typedef struct lw_standing {
+    uint8_t refusal;
+    uint8_t kind; /* one of these, or 0 where refused */
+    uint64_t bit; /* with LW_WHY_LOCK_LOST, LW_WHY_BLOCK_MISSING and LW_WHY_NOT_NEXT_MINUTE;
+                     else 0 */
+} lw_standing;
+
+/* Answers a fresh watch: a fresh state, and nothing fed. */
+lw_watch lw_watch_fresh(void);
+
+/* Feeds up to 65,536 bits to a watch, first sent bit first, and counts as
+ * lw_run_packed does.
+ * Refusals, in this order: 6 for the edition, 9, also where the length would take
+ * `fed` past 2^64 - 1, whatever the bits are, 10, and the watch then stays as it
+ * is; or 1 at a bit that is none, and watch, counts and remainder are then those
+ * of the bits before it. */
+lw_counts lw_watch_run(uint16_t edition, lw_watch *watch, const uint8_t *bits, size_t len);
+
+/* Answers how the time stands.
+ * Refusals, in this order: 6 for the edition, 10. */
+lw_standing lw_why(uint16_t edition, lw_watch watch);
 
 /* What a Polish frame tells, the time signal on 225 kHz. The seven fields behind
  * the count are one bit each. Where two of them belong together, a table gives

@@ -15,13 +15,16 @@ use contract.Monad.{Fun, fact}
 use denote.Ref.{RefT, now}
 use Rattle.refusal.proofs.Determined.{Determined, Leaves}
 use Rattle.receiver.specs.declared.Counts.{Counts}
-use Rattle.face_receiver.specs.Under.{runUnder, fedUnder, runPackedUnder, fedPackedUnder}
+use Rattle.face_receiver.specs.Under.{runUnder, fedUnder, runPackedUnder, fedPackedUnder, watchedUnder}
 use Rattle.face_receiver.proofs.lw_feed as feed
 use Rattle.face_receiver.proofs.lw_feed_packed as feed-packed
 use Rattle.face_receiver.proofs.lw_fresh.Reads as fresh
 use Rattle.face_receiver.proofs.lw_fresh_packed.Reads as fresh-packed
 use Rattle.face_receiver.proofs.lw_run as lw-run
 use Rattle.face_receiver.proofs.lw_run_packed as run-packed
+use Rattle.face_receiver.proofs.lw_watch_fresh.Reads as watch-fresh
+use Rattle.face_receiver.proofs.lw_watch_run as watch-run
+use Rattle.face_receiver.proofs.lw_why.Reads as why
 
 pub fresh-determined : Determined fresh.Post
 fresh-determined κs a x y s t p q = p ∙ sym q
@@ -29,7 +32,13 @@ fresh-determined κs a x y s t p q = p ∙ sym q
 pub fresh-packed-determined : Determined fresh-packed.Post
 fresh-packed-determined κs a x y s t p q = p ∙ sym q
 
--- in either layout the counts are handed back, and the state is left in the lent place
+pub watch-fresh-determined : Determined watch-fresh.Post
+watch-fresh-determined κs a x y s t p q = p ∙ sym q
+
+pub why-determined : Determined why.Post
+why-determined κs a x y s t p q = p ∙ sym q
+
+-- the counts are handed back, and the state, in either layout, or the watch is left in the lent place
 module _ {State : Type 0} where
   abbrev Left : Counts → State → Counts → RefT State → Type 0
   Left counts next r state = (r ≡ counts) × (now state ≡ next)
@@ -73,3 +82,7 @@ module _ {M : Type 1} (𝓤 : URA M) (H : Heap 𝓤) (A : Atoms 𝓤) (mem : Mem
   pub run-packed-read : (κs : _) (a : _) (r : _) (e : _)
       → run-packed.clauses 𝓤 H A mem run κs a .ensures tt r e ≡ fact 𝓤 (RunPost (λ n s bs. runPackedUnder n s bs .counts) (λ n s bs. runPackedUnder n s bs .state) κs a r e)
   run-packed-read κs a r e = refl
+
+  pub watch-run-read : (κs : _) (a : _) (r : _) (e : _)
+      → watch-run.clauses 𝓤 H A mem run κs a .ensures tt r e ≡ fact 𝓤 (RunPost (λ n w bs. watchedUnder n w bs .counts) (λ n w bs. watchedUnder n w bs .watch) κs a r e)
+  watch-run-read κs a r e = refl
