@@ -5,11 +5,13 @@ mod packed;
 mod polish;
 mod receiver;
 mod record;
+mod watch;
 
 pub use packed::*;
 pub use polish::*;
 pub use receiver::*;
 pub use record::*;
+pub use watch::*;
 
 use std::hint::black_box;
 

@@ -5,12 +5,14 @@ mod packed_state;
 mod polish;
 mod receiver;
 mod record;
+mod watch;
 
 pub use packed::*;
 pub use packed_state::*;
 pub use polish::*;
 pub use receiver::*;
 pub use record::*;
+pub use watch::*;
 
 use crate::independent::Fault;
 use crate::refusals::WRONG_CHECK_WORD;

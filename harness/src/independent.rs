@@ -1,7 +1,7 @@
 //! The answers, written from documents 01 and 02 alone. Here the block, by long
 //! division on one number; the block that stays a number, the editions, the
-//! record, the calendar, the receiver, its packed state and the Polish frame have
-//! files of their own.
+//! record, the calendar, the receiver, its packed state, what is told of it when
+//! it is watched, and the Polish frame have files of their own.
 //!
 //! A polynomial modulo 2 is a number, one bit for each power of x, and a block
 //! is its fifty bits as one number: bit 49 is the first sent.
@@ -13,6 +13,7 @@ pub mod packed_state;
 pub mod polish;
 pub mod receiver;
 pub mod record;
+pub mod watch;
 
 pub use edition::{Edition, EDITIONS};
 

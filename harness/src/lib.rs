@@ -4,8 +4,9 @@
 //! `compare` demands that both say the same. `changes` and `slips` list what
 //! can go wrong on the air, `fields` what can be wrong in a caller's values,
 //! `feeds` sends blocks as a transmitter does, `runs` says what is heard of blocks
-//! that come undamaged, `program` runs a receiver program, and `random` makes tests
-//! that can be repeated.
+//! that come undamaged, `stories` tells feeds of which it is known how the time
+//! stands, `program` runs a receiver program, and `random` makes tests that can be
+//! repeated.
 
 pub mod changes;
 pub mod compare;
@@ -18,3 +19,4 @@ pub mod random;
 pub mod refusals;
 pub mod runs;
 pub mod slips;
+pub mod stories;

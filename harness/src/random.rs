@@ -2,7 +2,8 @@
 
 use std::env;
 
-use crate::face::{Date, Polish, Record, State, CANDIDATE, CONFIRMED, LOCKED, TRYING};
+use crate::face::{Date, Polish, Record, State, Watch, CANDIDATE, CONFIRMED, LOCKED, TRYING};
+use crate::independent::packed_state::packed;
 use crate::independent::polish::SYMBOLS;
 use crate::independent::{bits_of, block, calendar, Edition, BLOCK};
 
@@ -142,6 +143,25 @@ impl Random {
     /// A locked state with nothing waiting and no time.
     pub fn locked_state(&mut self) -> State {
         State { mode: LOCKED, bad: self.between(0, 3), ..State::FRESH }
+    }
+
+    /// A proper watch of any proper state, with any numbers that go with it.
+    pub fn proper_watch(&mut self, edition: Edition) -> Watch {
+        let waiting = self.below(BLOCK);
+        let state = self.proper_state(edition).with_waiting(&self.bits(waiting));
+        let fed = self.number() >> self.below(64);
+        let mut up_to_fed = |used: bool| match self.below(4) {
+            0 if used => fed,
+            1 | 2 if used => self.number() % fed.max(1),
+            _ => 0,
+        };
+        Watch {
+            state: packed(&state).expect("places that hold bits"),
+            fed,
+            lost: up_to_fed(true),
+            dropped: up_to_fed(state.mode == LOCKED),
+            displaced: up_to_fed(state.time == CANDIDATE),
+        }
     }
 
     /// A date of 1900 to 2100. Its month may lack its day.

@@ -1,5 +1,6 @@
 //! The receiver as a history: every bit ever heard is kept, and mode, time,
-//! counts and remainder are read off the places where blocks ended in it.
+//! counts and remainder are read off the places where blocks ended in it. What
+//! happened to lock and time is kept too, as a list.
 
 use super::{calendar, read, record, Edition, Fault, BLOCK};
 use crate::face::{Counts, Record, State, CANDIDATE, CONFIRMED, HUNTING, LOCKED, NO_TIME, TRYING};
@@ -29,6 +30,27 @@ struct Rules {
     edition: Edition,
     /// Minutes for which a time is held.
     held: usize,
+}
+
+/// What a bit can do to lock and time. No bit does two of these.
+#[derive(Clone, Copy, Debug, PartialEq)]
+pub enum Event {
+    LockCame,
+    LockLost,
+    /// It became none at its last age while lock stayed.
+    TimeDropped,
+    /// A usable block was offered; a record that was held before gave way to it.
+    RecordMade {
+        confirmed: bool,
+        displaced: Option<Record>,
+    },
+}
+
+/// An event, and how many bits were heard when it happened.
+#[derive(Clone, Copy, Debug, PartialEq)]
+pub struct Happened {
+    pub heard: usize,
+    pub event: Event,
 }
 
 /// A search for blocks, which begins where the one before was given up.
@@ -87,7 +109,28 @@ impl Search {
         (age < held * MINUTE).then_some((time, age))
     }
 
-    /// Takes in the block whose fifty bits these are.
+    /// Takes in the block whose fifty bits these are, and tells what that did.
+    fn take(&mut self, bits: &[u8], rules: Rules) -> Option<Event> {
+        let locked = self.is_locked();
+        let held = self.time(rules.held).map(|(time, _)| time.record);
+        let usable = self.times.len();
+        self.judge(bits, rules);
+        if self.is_given_up() {
+            return locked.then_some(Event::LockLost);
+        }
+        if !locked {
+            return self.is_locked().then_some(Event::LockCame);
+        }
+        match self.time(rules.held) {
+            Some((time, _)) if self.times.len() > usable => {
+                Some(Event::RecordMade { confirmed: time.confirmed, displaced: held })
+            }
+            Some(_) => None,
+            None => held.map(|_| Event::TimeDropped),
+        }
+    }
+
+    /// Judges it, and behind those that gave lock keeps the time that it tells.
     fn judge(&mut self, bits: &[u8], rules: Rules) {
         let place = self.blocks.len();
         let read = read(bits);
@@ -116,10 +159,11 @@ impl Search {
     }
 }
 
-/// Every bit heard, and every search among them.
+/// Every bit heard, every search among them, and all that happened.
 pub struct History {
     bits: Vec<u8>,
     searches: Vec<Search>,
+    events: Vec<Happened>,
     rules: Rules,
 }
 
@@ -132,7 +176,8 @@ impl History {
     /// Nothing heard yet, by a receiver that holds a time for so many minutes.
     pub fn holding_for(edition: Edition, held: usize) -> Self {
         let rules = Rules { edition, held };
-        History { bits: Vec::new(), searches: vec![Search::default()], rules }
+        let searches = vec![Search::default()];
+        History { bits: Vec::new(), searches, events: Vec::new(), rules }
     }
 
     /// A history, made up, that ends in this proper state. Of blocks long past
@@ -167,6 +212,11 @@ impl History {
         self.latest().is_locked()
     }
 
+    /// All that happened, in its order. What was made up has no events.
+    pub fn events(&self) -> &[Happened] {
+        &self.events
+    }
+
     fn latest(&self) -> &Search {
         self.searches.last().expect("there is always a search")
     }
@@ -185,7 +235,8 @@ impl History {
             Some(start) if !(heard - start).is_multiple_of(BLOCK) => return,
             Some(_) => {}
         }
-        search.judge(&self.bits[window..], self.rules);
+        let event = search.take(&self.bits[window..], self.rules);
+        self.events.extend(event.map(|event| Happened { heard, event }));
         if search.is_given_up() {
             self.searches.push(Search { from: heard, ..Search::default() });
         }
