@@ -5,8 +5,8 @@
 //! can go wrong on the air, `fields` what can be wrong in a caller's values,
 //! `feeds` sends blocks as a transmitter does, `runs` says what is heard of blocks
 //! that come undamaged, `stories` tells feeds of which it is known how the time
-//! stands, `program` runs a receiver program, and `random` makes tests that can be
-//! repeated.
+//! stands, `stored` has fifty feeds that are kept as files, `program` runs a receiver
+//! program, and `random` makes tests that can be repeated.
 
 pub mod changes;
 pub mod compare;
@@ -19,4 +19,5 @@ pub mod random;
 pub mod refusals;
 pub mod runs;
 pub mod slips;
+pub mod stored;
 pub mod stories;

@@ -1,4 +1,5 @@
-//! The programs: a receiver run on an input file, and the product's generator.
+//! The programs: a receiver run on an input file, the one that says why a dial is
+//! blank, and the product's generator.
 
 use std::env;
 use std::ffi::OsString;
@@ -9,6 +10,11 @@ use std::process::{Child, Command, Stdio};
 /// The product's program, if `RECEIVE_BIN` names it.
 pub fn product() -> Option<OsString> {
     env::var_os("RECEIVE_BIN")
+}
+
+/// The product's program that says why a dial is blank, if `WHY_BIN` names it.
+pub fn explainer() -> Option<OsString> {
+    env::var_os("WHY_BIN")
 }
 
 /// The product's test generator, if `TRANSMIT_BIN` names it.
@@ -36,6 +42,11 @@ pub fn printed(child: Child) -> (String, String) {
 /// A file of the project.
 pub fn project(name: &str) -> PathBuf {
     Path::new(env!("CARGO_MANIFEST_DIR")).join("..").join(name)
+}
+
+/// A file of the stored feeds.
+pub fn stored_feed(name: &str) -> PathBuf {
+    project("harness/feeds").join(name)
 }
 
 /// A file of the project's examples.
