@@ -1,5 +1,5 @@
 //! Contenders on the same input, the product first. All must agree, or the run
-//! fails; a ratio alone never fails it.
+//! fails; a ratio fails it only where one is demanded.
 
 use std::time::Duration;
 
@@ -42,4 +42,15 @@ pub fn show<const N: usize>(
         .map(|(name, rate)| format!("{}/{name} = {:.2}", names[0], rates[0] / rate))
         .collect();
     println!("{what}: {}", ratios.join(", "));
+}
+
+/// Fails unless the first has more than this part of the other's speed.
+pub fn demand(what: &str, names: [&str; 2], best: [Duration; 2], least: f64) {
+    let ratio = best[1].as_secs_f64() / best[0].as_secs_f64();
+    let [name, other] = names;
+    assert!(
+        ratio > least,
+        "{what}: {name}/{other} = {ratio:.3}, and more than {least} is demanded"
+    );
+    println!("{what}: {name}/{other} is above {least:.2}, as demanded");
 }

@@ -19,6 +19,7 @@ mod standing;
 mod stepwise;
 mod table;
 mod table_number;
+mod watching;
 
 use std::env;
 
@@ -31,6 +32,7 @@ fn main() {
             blocks::measure();
             numbers::measure();
             receiver::measure();
+            watching::measure();
             polish::measure();
             program::measure();
         }
