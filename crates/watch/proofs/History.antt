@@ -26,15 +26,15 @@ use Rattle.receiver.specs.Steps.{stepOf}
 use Rattle.receiver.specs.History.{afterFrom, after}
 use Rattle.receiver.specs.Packed.{packed, unpacked}
 use Rattle.receiver.proofs.StaysProper.{room, bits-and-lock, fresh-proper}
-use Rattle.receiver.proofs.Layouts.{there-and-back, fresh-packed, proper-fifty, fresh-packed-proper}
+use Rattle.receiver.proofs.Layouts.{there-and-back, fresh-packed, proper-fifty}
 use Rattle.receiver.proofs.EndOfHistory.{_▹_, length-more, first-more, after-more}
 use Rattle.receiver.proofs.WholeHistory.{before-bits}
 use Rattle.watch.specs.declared.Watch.{Watch}
 use Rattle.watch.specs.Watches.{freshWatch, noneUnless, letsGo, since, displacedAfter, watchProper, remembered, watchNext, watchAfter, watchedOf}
 use Rattle.watch.specs.Standing.{standingWith, whyOf}
-use Rattle.watch.specs.History.{lastly, lastWith, lostLock, droppedTime, madeRecord, lastLoss, dropSinceLock, displacement, bitsWatched, watchedAll, historyOf, ShowsHistory, ShowsState}
+use Rattle.watch.specs.History.{lastly, lastWith, lostLock, droppedTime, madeRecord, lastLoss, dropSinceLock, displacement, standingAfter, bitsWatched, watchedAll, historyOf, ShowsHistory, ShowsState}
 use Rattle.watch.proofs.Since.{step-held}
-use Rattle.watch.proofs.Watching.{is-held, proper-fits, fits-proper, state-proper, next-proper, next-state}
+use Rattle.watch.proofs.Watching.{is-held, proper-fits, fresh-watch-proper, state-proper, next-proper, next-state}
 use Rattle.watch.proofs.Last.{last-more, last-within}
 
 -- ---- one bit, with which n bits were fed
@@ -144,7 +144,7 @@ module _ (edition : Edition) where
   fresh-remembers =
       record {
         state = ap unpacked fresh-packed ∙ there-and-back freshOf (proper-fifty edition freshOf (fresh-proper edition));
-        proper = fits-proper edition freshWatch (fresh-packed-proper edition) (record { lost = omega arith; dropped = omega arith; displaced = omega arith; drop-unless = refl; displaced-unless = refl });
+        proper = fresh-watch-proper edition;
         fed = refl;
         lost = refl;
         dropped = refl;
@@ -189,12 +189,18 @@ module _ (edition : Edition) where
       cond-elim (λ (x : Bool). x ≡ true → t .kind ≤ confirmed) (eqb (t .kind) none) (λ z _. omega (arith, eqb-true (t .kind) none z))
       (λ _ p. leb-true (t .kind) confirmed (and-eq-true-iff (leb (t .kind) confirmed) _ .0 p .0)))
 
+  -- so its answer is the history's
+  shown : (l : List ℕ) (w : Watch) → Remembers edition l w → whyOf edition w ≡ standingAfter edition l
+  unfolding whyOf
+  shown l w m =
+      rw (m .proper, ← m .state, ← m .dropped, ← m .lost)
+      (standing-same (w .state .mode) (w .state .time) (w .lost) (w .dropped) _ _ (kind-small w (m .proper)) (m .displaced))
+
+  pub bits-shown : (l : List ℕ) → Bits l → whyOf edition (watchAfter edition freshWatch l) ≡ standingAfter edition l
+  bits-shown l h = shown l (watchAfter edition freshWatch l) (remembers-on [] freshWatch l h fresh-remembers)
+
 pub shows-history : ShowsHistory
-unfolding whyOf
-shows-history edition runs =
-    let w : Watch = watchedAll edition freshWatch runs in
-    let m = all-runs edition [] freshWatch runs (fresh-remembers edition) in
-    rw (m .proper, ← m .state, ← m .dropped, ← m .lost) (standing-same (w .state .mode) (w .state .time) (w .lost) (w .dropped) _ _ (kind-small edition w (m .proper)) (m .displaced))
+shows-history edition runs = shown edition (historyOf [] runs) (watchedAll edition freshWatch runs) (all-runs edition [] freshWatch runs (fresh-remembers edition))
 
 pub shows-state : ShowsState
 shows-state edition runs = all-runs edition [] freshWatch runs (fresh-remembers edition) .state

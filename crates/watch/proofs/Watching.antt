@@ -23,9 +23,9 @@ use Rattle.receiver.specs.History.{afterFrom}
 use Rattle.receiver.specs.Packed.{packed, unpacked, packedProper}
 use Rattle.receiver.specs.Changes.{sameLock, runsOn, upTo}
 use Rattle.receiver.proofs.StaysProper.{Proper, room, step-proper}
-use Rattle.receiver.proofs.Layouts.{proper-fifty, there-and-back, packed-proper, back-and-there, proper-small, proper-unpacked}
+use Rattle.receiver.proofs.Layouts.{proper-fifty, there-and-back, packed-proper, fresh-packed-proper, back-and-there, proper-small, proper-unpacked}
 use Rattle.watch.specs.declared.Watch.{Watch}
-use Rattle.watch.specs.Watches.{noneUnless, isHeld, letsGo, losesLock, since, watchProper, remembered, watchNext, watchAfter}
+use Rattle.watch.specs.Watches.{freshWatch, noneUnless, isHeld, letsGo, losesLock, since, watchProper, remembered, watchNext, watchAfter}
 use Rattle.watch.proofs.Since.{after-held}
 use Rattle.watch.proofs.Remembering.{Fits, none-more, one-more}
 
@@ -77,7 +77,7 @@ module _ (edition : Edition) where
         },
       )
 
-  pub fits-proper : (w : Watch) → packedProper edition (w .state) ≡ true → Fits w → watchProper edition w ≡ true
+  fits-proper : (w : Watch) → packedProper edition (w .state) ≡ true → Fits w → watchProper edition w ≡ true
   unfolding watchProper
   fits-proper w e f =
       and-eq-true-iff _ _ .1 (
@@ -87,6 +87,11 @@ module _ (edition : Edition) where
           and-eq-true-iff _ _ .1 (f .drop-unless, f .displaced-unless),
         ),
       )
+
+  pub fresh-watch-proper : watchProper edition freshWatch ≡ true
+  fresh-watch-proper =
+      fits-proper freshWatch (fresh-packed-proper edition)
+      (record { lost = omega arith; dropped = omega arith; displaced = omega arith; drop-unless = refl; displaced-unless = refl })
 
   module _ (w : Watch) (e : watchProper edition w ≡ true) where
     pub state-proper : Proper edition (unpacked (w .state))
