@@ -27,16 +27,20 @@ pub fn weight(waiting: u32) -> u64
     1u64 << (50 - waiting)
 }
 
-// The bits that wait in a state.
+// The bits that wait in a state. Where none does, as behind a change of lock or of the time, there is nothing to divide.
 pub fn window_in(state: PackedState) -> Window
     requires { ⌜ (state .waiting < 50) × (state .bits < 2 ^ 50) ⌝ }
     ensures { λ w. ⌜ (w .waiting ≡ state .waiting) × (w .bits ≡ state .bits / 2 ^ (50 - state .waiting)) × Turned w ⌝ }
 {
     let waiting = state.waiting as u32;
     let bits = state.bits / weight(waiting);
+    let mut register = 0;
+    if 0 < waiting {
+        register = remainder(bits);
+    }
     Window {
         bits,
-        register: remainder(bits),
+        register,
         waiting,
     }
 }
