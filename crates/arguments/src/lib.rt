@@ -1,7 +1,10 @@
-// What the text of an argument says: a number, a day, a time of day, an offset in half hours; or that it says none.
+// What the text of an argument says: a number, an edition, a day, a time of day, an offset in half hours; or that it says none.
 ghost use mathlib.Core.Path.{_≡_};
+ghost use Rattle.arguments.specs.Editions.{editionIn};
 ghost use Rattle.arguments.specs.Numbers.{isDigit, numberOf, Below};
 ghost use Rattle.arguments.specs.Times.{dayWith, dayOf, timeWith, timeOf, signed, offsetOf};
+use record::Named;
+use refusal::Refusal;
 
 // The number that digits write.
 pub enum Number {
@@ -55,6 +58,20 @@ pub fn number_of(text: &[u8]) -> Number
         }
     }
     if i == 0 { Number::None } else { Number::Of(n) }
+}
+
+// The edition whose year a text writes.
+pub fn edition_of(text: &[u8]) -> Named
+    ensures { λ r. ⌜ r ≡ editionIn (now (text .entry)) ⌝ }
+{
+    let Number::Of(n) = number_of(text) else {
+        return Named::Refused(Refusal::OutOfRange);
+    };
+    if 65535 < n {
+        return Named::Refused(Refusal::OutOfRange);
+    }
+    let year = n as u16;
+    record::edition_of(year)
 }
 
 fn day_with(year: Number, month: Number, day: Number) -> Day

@@ -5,6 +5,7 @@ use arguments::Number;
 use arguments::Offset;
 use arguments::Time;
 use arguments::day_of;
+use arguments::edition_of;
 use arguments::number_of;
 use arguments::offset_of;
 use arguments::time_of;
@@ -54,7 +55,7 @@ fn number_or(i: usize, count: usize, otherwise: u32) -> Number {
     }
 }
 
-// A number of minutes or of an edition; 0, which neither can be, where it is none or out of range.
+// A number of minutes; 0, which it cannot be, where it is none or out of range.
 fn short_of(number: Number) -> u16 {
     match number {
         Number::Of(n) => {
@@ -64,6 +65,17 @@ fn short_of(number: Number) -> u16 {
             n as u16
         }
         Number::None => 0,
+    }
+}
+
+// The edition at a place that may be left out.
+fn edition_or(i: usize, count: usize, otherwise: Edition) -> Named {
+    if i < count {
+        let mut text = [0u8; 16];
+        let n = os::arg(i, &mut text);
+        edition_of(&text[..n])
+    } else {
+        Named::Given(otherwise)
     }
 }
 
@@ -126,7 +138,7 @@ fn feed_from(date: Date, count: usize) -> Asked {
     let Number::Of(seed) = number_or(6, count, 1) else {
         return wrong_seed();
     };
-    let Named::Given(edition) = record::edition_of(short_of(number_or(7, count, 1984))) else {
+    let Named::Given(edition) = edition_or(7, count, Edition::Of1984) else {
         return wrong_edition();
     };
     let Recorded::Given(record) = calendar::record_of_date(edition, date) else {
