@@ -20,9 +20,9 @@ pub enum Refusal {
     NotInYear,
     // A first year, or the civil or coded year of a written date, is outside the calendar.
     WrongYear,
-    // A run is longer than 65,536.
+    // A run is longer than 65,536, or takes the bits that a watch was fed past 2^64 - 1.
     RunTooLong,
-    // The lent state is not proper.
+    // The state or the watch is not proper.
     Improper,
     // A block's number has a bit above place 49.
     NumberTooWide,
