@@ -10,10 +10,10 @@ use mathlib.Core.Path.{_≡_, refl, sym, ap, _∙_, subst}
 use borrow.Author.Tests.{lt-ltb, le-leb}
 use lib.Bits.{bitXor, xor-lt}
 use lib.Dec.{T, T-not, leb, ltb}
-use lib.ListN.{length, take, drop, length-append, length-drop, length-replicate, length-take, replicate-append-replicate, take-append-drop}
+use lib.ListN.{length, take, drop, length-append, length-drop, length-take, take-append-drop}
 use lib.Pow.{pow-mono}
 use lib.Seq.{length-take-le, take-append-seam, take-append-le, take-append-add, drop-append-le, drop-nil}
-use Rattle.block.specs.Bits.{Bits, zeros, value, xors}
+use Rattle.block.specs.Bits.{Bits, zeros, value}
 use Rattle.block.specs.Block.{Good, blockOf}
 use Rattle.block.specs.Division.{remainderFrom, remainder}
 use Rattle.block.specs.Read.{readOf}
@@ -21,24 +21,16 @@ use Rattle.block.specs.declared.Read.{Read}
 use Rattle.block.specs.declared.Read.the-variants.{Block, Refused}
 use Rattle.block.proofs.Below.{below, at-below}
 use Rattle.block.proofs.CheckWord.{good-rem}
-use Rattle.block.proofs.Linear.{rem-xor}
 use Rattle.block.proofs.RoundTrip.{written-good}
-use Rattle.block.proofs.Strings.{bits-append, bits-drop, bits-take, bits-zeros, not-true, rem-append, rem-split, rem-val, val-lt, xors-zeros}
+use Rattle.block.proofs.Strings.{bits-append, bits-drop, bits-take, not-true, rem-append, rem-split, rem-val, val-lt}
 use Rattle.block.proofs.Taken.{taken}
 use Rattle.block.proofs.Xor.{xor-eq}
+use Rattle.block.proofs.Zeros.{up, up-on, up-xor}
 use Rattle.detection.specs.Slips.{Message, sent}
 use Rattle.detection.proofs.Slips.{first-bits}
 use Rattle.record.proofs.Tests.{le-or-lt}
 use Rattle.locking.specs.Modes.{isGood}
 use Rattle.acquisition.specs.Heard.{heardFrom, bitsBeforeBlock}
-
--- bits pushed up by zeros
-pushed : ℕ → ℕ → ℕ
-pushed n e = remainderFrom e (zeros n)
-
-pushed-on : (m n e : ℕ) → pushed (m + n) e ≡ pushed n (pushed m e)
-unfolding pushed
-pushed-on m n e = ap (remainderFrom e) (sym (replicate-append-replicate m n 0)) ∙ rem-append (zeros m) (zeros n) e
 
 -- e is a number of up to i + p + 1 bits, and r one of just i + 1
 meet : ℕ → ℕ → ℕ → ℕ → Bool
@@ -46,22 +38,22 @@ meet e p r i = ltb e (2 ^ (i + p + 1)) && (leb (2 ^ i) r && ltb r (2 ^ (i + 1)))
 
 -- r is what e leaves before 43 zeros; before six more, less p, they never meet
 apart : ℕ → ℕ → Bool
-apart e r = below 7 (λ p. below (7 - p) (λ i. not (meet e p (pushed (6 - p) r) i)))
+apart e r = below 7 (λ p. below (7 - p) (λ i. not (meet e p (up (6 - p) r) i)))
 
-all-apart : T (below 128 (λ e. apart e (pushed 43 e)))
-unfolding pushed meet apart remainderFrom
+all-apart : T (below 128 (λ e. apart e (up 43 e)))
+unfolding meet apart remainderFrom
 all-apart = tt
 
-never-meet : (e p i : ℕ) → e < 128 → p < 7 → i < 7 - p → T (meet e p (pushed (49 - p) e) i) → ⊥
+never-meet : (e p i : ℕ) → e < 128 → p < 7 → i < 7 - p → T (meet e p (up (49 - p) e) i) → ⊥
 unfolding apart
 never-meet e p i h k l =
-    let r : ℕ = pushed 43 e in
+    let r : ℕ = up 43 e in
     let n : 43 + (6 - p) ≡ 49 - p = omega arith in
-    let same : pushed (49 - p) e ≡ pushed (6 - p) r = rw n at (pushed-on 43 (6 - p) e) in
+    let same : up (49 - p) e ≡ up (6 - p) r = rw n at (sym (up-on 43 (6 - p) e)) in
     rw same
-    (T-not (meet e p (pushed (6 - p) r) i)
-    (at-below (7 - p) (λ i. not (meet e p (pushed (6 - p) r) i))
-    (at-below 7 (λ p. below (7 - p) (λ i. not (meet e p (pushed (6 - p) r) i))) (at-below 128 (λ e. apart e (pushed 43 e)) all-apart e h) p k) i l))
+    (T-not (meet e p (up (6 - p) r) i)
+    (at-below (7 - p) (λ i. not (meet e p (up (6 - p) r) i))
+    (at-below 7 (λ p. below (7 - p) (λ i. not (meet e p (up (6 - p) r) i))) (at-below 128 (λ e. apart e (up 43 e)) all-apart e h) p k) i l))
 
 -- the bits p behind the first that waits; the block whose second to last bits are x, of which j are left out besides the first; and the
 -- next block, y
@@ -91,8 +83,7 @@ module _ (p x y : List ℕ) (j : ℕ) (few : j ≤ 7) (more : length p < j) (bit
   bits-q = bits-take (j - length p) y (good-y .bits)
 
   -- up to seven bits before u
-  before : (s : List ℕ) → Bits s → length s ≤ 7 → remainder (s ++ u) ≡ bitXor (pushed (49 - length p) (value s)) (remainder u)
-  unfolding pushed
+  before : (s : List ℕ) → Bits s → length s ≤ 7 → remainder (s ++ u) ≡ bitXor (up (49 - length p) (value s)) (remainder u)
   before s h m =
       let v : value s < 128 = omega (arith, val-lt s h, pow-mono m) in
       rem-append s u 0 ∙ ap (λ (r : ℕ). remainderFrom r u) (rem-val s h (omega arith))
@@ -121,17 +112,13 @@ module _ (p x y : List ℕ) (j : ℕ) (few : j ≤ 7) (more : length p < j) (bit
     small : 2 ^ j ≤ 128
     small = pow-mono few
 
-    sum : pushed m e ≡ bitXor (pushed m (value a)) (pushed m (value p))
-    unfolding pushed
-    sum =
-        let same : length (zeros m) ≡ m = length-replicate m 0 in
-        ap (remainderFrom e) (sym (subst (λ (n : ℕ). xors (zeros n) (zeros m) ≡ zeros m) same (xors-zeros (zeros m))))
-        ∙ rem-xor (zeros m) (zeros m) (value a) (value p) (omega (arith, small-a, small)) (omega (arith, small-p, small)) (bits-zeros m) (bits-zeros m) refl
+    sum : up m e ≡ bitXor (up m (value a)) (up m (value p))
+    sum = up-xor m (value a) (value p) (omega (arith, small-a, small)) (omega (arith, small-p, small))
 
-    is-pushed : pushed m e ≡ value q
+    is-pushed : up m e ≡ value q
     is-pushed =
-        let rest : pushed m (value p) ≡ remainder u = xor-eq (pushed m (value p)) (remainder u) (sym (before p bits-p (omega arith)) ∙ left) in
-        sum ∙ ap (bitXor (pushed m (value a))) rest ∙ sym (before a (bits-take j x bits-x) (omega (arith, size-a))) ∙ whole
+        let rest : up m (value p) ≡ remainder u = xor-eq (up m (value p)) (remainder u) (sym (before p bits-p (omega arith)) ∙ left) in
+        sum ∙ ap (bitXor (up m (value a))) rest ∙ sym (before a (bits-take j x bits-x) (omega (arith, size-a))) ∙ whole
 
     no-join : ⊥
     unfolding meet
@@ -141,10 +128,10 @@ module _ (p x y : List ℕ) (j : ℕ) (few : j ≤ 7) (more : length p < j) (bit
         let s-is : i + 1 ≡ j - length p = omega arith in
         let t : suc i ≡ j - length p = omega arith in
         let small-e : e < 2 ^ j = xor-lt j (value a) (value p) small-a small-p in
-        let at-least : 2 ^ i ≤ pushed m e = rw is-pushed (subst (λ (n : ℕ). 2 ^ i ≤ value (take n y)) t (first-bits y i good-y (omega arith))) in
-        let at-most : pushed m e < 2 ^ (i + 1) = rw (is-pushed, s-is) (subst (λ (n : ℕ). value q < 2 ^ n) size-q (val-lt q bits-q)) in
+        let at-least : 2 ^ i ≤ up m e = rw is-pushed (subst (λ (n : ℕ). 2 ^ i ≤ value (take n y)) t (first-bits y i good-y (omega arith))) in
+        let at-most : up m e < 2 ^ (i + 1) = rw (is-pushed, s-is) (subst (λ (n : ℕ). value q < 2 ^ n) size-q (val-lt q bits-q)) in
         never-meet e (length p) i (omega (arith, small-e, small)) (omega arith) (omega arith)
-        (rw (j-is, lt-ltb e (2 ^ j) small-e, le-leb (2 ^ i) (pushed m e) at-least, lt-ltb (pushed m e) (2 ^ (i + 1)) at-most) tt)
+        (rw (j-is, lt-ltb e (2 ^ j) small-e, le-leb (2 ^ i) (up m e) at-least, lt-ltb (up m e) (2 ^ (i + 1)) at-most) tt)
 
 -- so it is where bits that wait stand before what is heard of two blocks
 not-joined : (b : ℕ) (p x y : List ℕ) (left : ℕ) → Good x → Good y → length (b ∷ p) < left → left ≤ 8

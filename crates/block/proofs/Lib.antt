@@ -1,6 +1,7 @@
 pub mod Xor
 pub mod Linear
 pub mod Strings
+pub mod Zeros
 pub mod Along
 pub mod Polynomials
 pub mod Below

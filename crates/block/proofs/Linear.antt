@@ -47,6 +47,9 @@ pub step-lt : (r b : ℕ) → r < 8192 → b < 2 → stepBit r b < 8192
 unfolding stepBit
 step-lt r b hr hb = reduce-lt (r * 2 + b) (omega arith)
 
+pub stepped-lt : {q r b : ℕ} → q ≡ stepBit r b → r < 8192 → b < 2 → q < 8192
+stepped-lt {q} {r} {b} e hr hb = rw e (step-lt r b hr hb)
+
 step-xor : (r s b c : ℕ) → r < 8192 → s < 8192 → b < 2 → c < 2 → stepBit (bitXor r s) (bitXor b c) ≡ bitXor (stepBit r b) (stepBit s c)
 unfolding stepBit
 step-xor r s b c hr hs hb hc =

@@ -229,6 +229,15 @@ unfolding remainderFrom
 rem-append [] ys r = refl
 rem-append (x ∷ xs) ys r = rem-append xs ys (stepBit r x)
 
+-- the walk along a string, one bit at a time: the next bit, and the end
+pub rem-next : (s : List ℕ) (r i : ℕ) → i < length s → remainderFrom r (drop i s) ≡ remainderFrom (stepBit r (getD s i 0)) (drop (i + 1) s)
+unfolding remainderFrom
+rem-next s r i h = ap (remainderFrom r) (next s i h)
+
+pub rem-done : (s : List ℕ) (r i : ℕ) → length s ≤ i → remainderFrom r (drop i s) ≡ r
+unfolding remainderFrom
+rem-done s r i h = ap (remainderFrom r) (drop-of-length-le s h)
+
 pub rem-lt : (bs : List ℕ) (r : ℕ) → r < 8192 → Bits bs → remainderFrom r bs < 8192
 unfolding remainderFrom
 rem-lt [] r hr h = hr
@@ -270,13 +279,15 @@ xors-zeros (b ∷ bs) = ap (λ (l : List ℕ). b ∷ l) (xors-zeros bs)
 pub rem-val : (bs : List ℕ) → Bits bs → length bs ≤ 13 → remainder bs ≡ value bs
 rem-val bs h l = rem-small bs 0 (omega (arith, val-lt bs h, pow-mono l))
 
+-- a number that is a remainder is what its thirteen bits leave
+pub rem-of : (n : ℕ) → n < 8192 → remainder (bitsOf 13 n) ≡ n
+rem-of n h = rem-val (bitsOf 13 n) (bits-bitsOf 13 n) (omega (arith, length-bitsOf 13 n)) ∙ val-bitsOf 13 n h
+
 -- the first thirteen bits fill the register as they are
 pub rem-filled : (k n : ℕ) → n / 2 ^ k < 8192 → remainder (bitsOf (13 + k) n) ≡ remainderFrom (n / 2 ^ k) (bitsOf k n)
 rem-filled k n h =
-    let first : List ℕ = bitsOf 13 (n / 2 ^ k) in
-    ap remainder (bitsOf-cut 13 k n) ∙ rem-append first (bitsOf k n) 0
-    ∙ ap (λ (r : ℕ). remainderFrom r (bitsOf k n))
-    (rem-val first (bits-bitsOf 13 (n / 2 ^ k)) (omega (arith, length-bitsOf 13 (n / 2 ^ k))) ∙ val-bitsOf 13 (n / 2 ^ k) h)
+    ap remainder (bitsOf-cut 13 k n) ∙ rem-append (bitsOf 13 (n / 2 ^ k)) (bitsOf k n) 0
+    ∙ ap (λ (r : ℕ). remainderFrom r (bitsOf k n)) (rem-of (n / 2 ^ k) h)
 
 -- what the register holds and what the string brings, apart
 pub rem-split : (bs : List ℕ) (r : ℕ) → r < 8192 → Bits bs → remainderFrom r bs ≡ bitXor (remainderFrom r (zeros (length bs))) (remainder bs)

@@ -10,7 +10,7 @@ use Rattle.block.specs.Bits.{Bits, zeros, valueFrom}
 use Rattle.block.specs.Division.{remainder}
 use Rattle.block.proofs.Strings.{bits-take, bits-drop, rem-val, val-ge}
 use Rattle.detection.specs.Damage.{Changed}
-use Rattle.detection.proofs.Zeros.{rem-back}
+use Rattle.block.proofs.Zeros.{rem-back}
 use Rattle.detection.proofs.Places.{unchanged}
 
 -- what stands behind the last change may be cut off

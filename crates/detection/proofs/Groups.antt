@@ -13,10 +13,10 @@ use lib.Seq.{getD-take, take-add}
 use Rattle.block.specs.Bits.{Bits, zeros}
 use Rattle.block.specs.Division.{stepBit, remainderFrom, remainder}
 use Rattle.block.proofs.Xor.{on-bit, xor-eq}
-use Rattle.block.proofs.Strings.{bits-zeros, bits-take, bits-drop, rem-append, rem-lt, rem-val, rem-split, val-lt}
+use Rattle.block.proofs.Strings.{bits-take, bits-drop, rem-append, rem-val, rem-split, val-lt}
+use Rattle.block.proofs.Zeros.{up-lt, up-on}
 use Rattle.detection.specs.Damage.{Changed, Among}
 use Rattle.block.proofs.Below.{below, at-below}
-use Rattle.detection.proofs.Zeros.{zeros-join}
 use Rattle.detection.proofs.Places.{changed-lt, unchanged}
 use Rattle.detection.proofs.Burst.{cut, not-burst}
 
@@ -38,11 +38,11 @@ apart x n q hx hq lq hn l z =
     let r : ℕ = remainderFrom (2 + x) (zeros n) in
     let e : remainderFrom r (zeros (length q)) ≡ remainder q =
     xor-eq (remainderFrom r (zeros (length q))) (remainder q)
-    (sym (rem-split q r (rem-lt (zeros n) (2 + x) (omega arith) (bits-zeros n)) hq)
+    (sym (rem-split q r (up-lt n (2 + x) (omega arith)) hq)
     ∙ sym (rem-append (zeros n) q (2 + x))
     ∙ ap (λ (v : ℕ). remainderFrom v (zeros n ++ q)) (sym (step-one x hx))
     ∙ z) in
-    omega (arith, e, zeros-join (2 + x) n (length q), far x (n + length q) hx (omega arith) l, rem-val q hq (omega arith), val-lt q hq, pow-mono lq)
+    omega (arith, e, up-on n (length q) (2 + x), far x (n + length q) hx (omega arith) l, rem-val q hq (omega arith), val-lt q hq, pow-mono lq)
 
 -- changes at the first place of r and in one group more
 module _ (r : List ℕ) (b : ℕ) (h : Bits r) (f : (k : ℕ) → Changed r k → (k < 1) ⊎ Among b 2 k) (z : remainder (1 ∷ r) ≡ 0) where

@@ -1,4 +1,3 @@
-pub mod Zeros
 pub mod Odd
 pub mod Places
 pub mod Burst

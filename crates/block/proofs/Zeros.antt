@@ -1,0 +1,45 @@
+-- Zeros behind a string move what the register holds up, a place each: they add up, a sum moves up as its parts do, and the circuit
+-- can be run backwards over them, so they make nothing only out of nothing.
+-- Assumes nothing.
+use mathlib.Core.List.{List, _++_}
+use mathlib.Core.Path.{_≡_, refl, sym, ap, _∙_}
+use Prim.Native.Nat.{ℕ, zero, suc, _+_, _*_, _/_, _<_}
+use native.Mathlib.Omega.{arith}
+use lib.Bits.{bitXor}
+use lib.ListN.{length-replicate, replicate-append-replicate}
+use Rattle.block.specs.Bits.{Bits, xors, zeros}
+use Rattle.block.specs.Division.{generator, stepBit, remainderFrom, remainder}
+use Rattle.block.proofs.Xor.{on-bit, xor-eq}
+use Rattle.block.proofs.Linear.{rem-xor, step-is, step-lt}
+use Rattle.block.proofs.Strings.{bits-zeros, rem-append, rem-lt, xors-zeros}
+
+-- what the register holds, moved up by n zeros
+abbrev pub up : ℕ → ℕ → ℕ
+up n r = remainderFrom r (zeros n)
+
+pub up-on : (m n r : ℕ) → up n (up m r) ≡ up (m + n) r
+up-on m n r = sym (rem-append (zeros m) (zeros n) r) ∙ ap (remainderFrom r) (replicate-append-replicate m n 0)
+
+pub up-lt : (n r : ℕ) → r < 8192 → up n r < 8192
+up-lt n r h = rem-lt (zeros n) r h (bits-zeros n)
+
+pub up-xor : (n r s : ℕ) → r < 8192 → s < 8192 → up n (bitXor r s) ≡ bitXor (up n r) (up n s)
+up-xor n r s hr hs =
+    let e : xors (zeros n) (zeros n) ≡ zeros n = rw length-replicate at (xors-zeros (zeros n)) in
+    ap (remainderFrom (bitXor r s)) (sym e) ∙ rem-xor (zeros n) (zeros n) r s hr hs (bits-zeros n) (bits-zeros n) refl
+
+-- ---- backwards
+
+-- the generator is odd, and what moved up one place is even
+step-zero : (r : ℕ) → r < 8192 → stepBit r 0 ≡ 0 → r ≡ 0
+step-zero r h e =
+    let n : ℕ = r * 2 + 0 in
+    on-bit (λ t. n ≡ t * generator → r ≡ 0) (λ d. omega arith) (λ d. omega arith) (n / 8192) (omega arith) (xor-eq n (n / 8192 * generator) (sym (step-is r 0 h (omega arith)) ∙ e))
+
+up-zero : (n r : ℕ) → r < 8192 → up n r ≡ 0 → r ≡ 0
+unfolding remainderFrom
+up-zero zero r h e = e
+up-zero (suc n) r h e = step-zero r h (up-zero n (stepBit r 0) (step-lt r 0 h (omega arith)) e)
+
+pub rem-back : (n : ℕ) (w : List ℕ) → Bits w → remainder (w ++ zeros n) ≡ 0 → remainder w ≡ 0
+rem-back n w h e = up-zero n (remainder w) (rem-lt w 0 (omega arith) h) (sym (rem-append w (zeros n) 0) ∙ e)
