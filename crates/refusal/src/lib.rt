@@ -26,6 +26,10 @@ pub enum Refusal {
     Improper,
     // A block's number has a bit above place 49.
     NumberTooWide,
+    // A string, or the second of two that are joined, is longer than 65,536.
+    StringTooLong,
+    // A remainder that is to be joined is above 8,191.
+    NotARemainder,
     // A frame is not 12 long, or a field to be written is too wide.
     WrongSize,
     // A fixed bit of a frame is wrong.
@@ -52,6 +56,8 @@ pub fn number(refusal: Refusal) -> u8
         Refusal::RunTooLong => 9,
         Refusal::Improper => 10,
         Refusal::NumberTooWide => 14,
+        Refusal::StringTooLong => 17,
+        Refusal::NotARemainder => 18,
         Refusal::WrongSize => 19,
         Refusal::WrongFixedBits => 20,
         Refusal::NoCodeword => 21,

@@ -18,7 +18,7 @@ returns : tie.Need-returns
 returns c = search needs
 
 returns-2 : tie.Need-returns-2
-returns-2 c = search needs
+returns-2 c = rw (c .before .before .before .one .given .1, c .enum-told3 .given .1)
 
 returns-3 : tie.Need-returns-3
 returns-3 c = search (needs, neither)
