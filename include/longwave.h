@@ -48,6 +48,9 @@ enum {
                                  watch was fed past 2^64 - 1 */
     LW_IMPROPER = 10,         /* the state or the watch is not proper */
     LW_NUMBER_TOO_WIDE = 14,  /* a number has a bit above place 49 */
+    LW_STRING_TOO_LONG = 17,  /* a string, or the second of two that are joined, is longer than
+                                 65,536 bits */
+    LW_NOT_A_REMAINDER = 18,  /* a remainder to be joined is above 8191 */
     LW_WRONG_SIZE = 19,       /* a frame is not 12 long, or a field to be written is too wide */
     LW_WRONG_FIXED_BITS = 20, /* a fixed bit of a frame is wrong */
     LW_NO_CODEWORD = 21,      /* no codeword differs from a frame's symbols in at most three */
@@ -111,6 +114,26 @@ lw_packed lw_pack(const uint8_t *bits, size_t len);
  * it is a good block or not. Answers 0, or a refusal, in this order: 2, 14; the
  * bytes then stay as they are. */
 uint8_t lw_unpack(uint64_t block, uint8_t *bits, size_t len);
+
+/* What a string of bits leaves when it is divided by the generator that lw_block
+ * names, the first bit for the highest power of x and the last for x^0. No bit is
+ * inverted and nothing is put behind them: a good block leaves 0 only when its
+ * first bit is inverted before. */
+typedef struct lw_remainder {
+    uint8_t refusal;
+    uint16_t remainder; /* 0 to 8191, place 12 for x^12; 0 where refused */
+} lw_remainder;
+
+/* Answers the remainder of up to 65,536 bits, first sent bit first; that of no
+ * bits is 0. Refusals, in this order: 17, 1. The bytes stay as they are. */
+lw_remainder lw_remainder_of(const uint8_t *bits, size_t len);
+
+/* Answers the remainder of two strings, the second behind the first, from the
+ * remainder of each and the second's `length` in bits, 0 to 65,536: it is what
+ * first times x^length plus second leaves. The first, and so the whole, may be
+ * longer. Whether a string of this length leaves `second` is not tested.
+ * Refusals, in this order: 17, 18. */
+lw_remainder lw_join(uint16_t first, uint16_t second, uint32_t length);
 
 /* The edition of the specification that a sender follows. Every call that reads,
  * writes, dates or judges a record takes it as its first parameter; any other
