@@ -1,12 +1,14 @@
 //! One call to the library and the same question to the independent program:
 //! answers and every lent byte must agree, and no byte beside them may change.
 
+mod joining;
 mod packed;
 mod polish;
 mod receiver;
 mod record;
 mod watch;
 
+pub use joining::*;
 pub use packed::*;
 pub use polish::*;
 pub use receiver::*;

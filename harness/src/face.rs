@@ -1,5 +1,6 @@
 //! Safe calls to the library, as `include/longwave.h` declares them.
 
+mod joining;
 mod packed;
 mod packed_state;
 mod polish;
@@ -7,6 +8,7 @@ mod receiver;
 mod record;
 mod watch;
 
+pub use joining::*;
 pub use packed::*;
 pub use packed_state::*;
 pub use polish::*;

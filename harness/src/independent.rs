@@ -1,13 +1,15 @@
 //! The answers, written from documents 01 and 02 alone. Here the block, by long
 //! division on one number; the block that stays a number, the editions, the
 //! record, the calendar, the receiver, its packed state, what is told of it when
-//! it is watched, and the Polish frame have files of their own.
+//! it is watched, the remainders of strings, and the Polish frame have files of
+//! their own.
 //!
 //! A polynomial modulo 2 is a number, one bit for each power of x, and a block
 //! is its fifty bits as one number: bit 49 is the first sent.
 
 pub mod calendar;
 pub mod edition;
+pub mod joining;
 pub mod packed;
 pub mod packed_state;
 pub mod polish;
@@ -49,9 +51,19 @@ pub fn block(code: u8, word: u32) -> u64 {
     PREFIX | message << 13 | check_word(message)
 }
 
+/// The lowest bits of a number as bytes, the highest of them first.
+pub fn digits_of<const N: usize>(number: u64) -> [u8; N] {
+    std::array::from_fn(|place| (number >> (N - 1 - place) & 1) as u8)
+}
+
+/// The number that such bytes write.
+pub fn number_of(digits: &[u8]) -> u64 {
+    digits.iter().fold(0, |number, &digit| number << 1 | u64::from(digit))
+}
+
 /// Fifty bits as bytes, in the order of sending.
 pub fn bits_of(block: u64) -> [u8; BLOCK] {
-    std::array::from_fn(|place| (block >> (BLOCK - 1 - place) & 1) as u8)
+    digits_of(block)
 }
 
 /// Why fifty bits are no block, and what is told with a wrong check word.

@@ -3,6 +3,7 @@
 use std::env;
 
 use crate::face::{Date, Polish, Record, State, Watch, CANDIDATE, CONFIRMED, LOCKED, TRYING};
+use crate::independent::joining::LARGEST;
 use crate::independent::packed_state::packed;
 use crate::independent::polish::SYMBOLS;
 use crate::independent::{bits_of, block, calendar, Edition, BLOCK};
@@ -73,6 +74,11 @@ impl Random {
             .flat_map(|number| (0..64).map(move |place| (number >> place & 1) as u8))
             .take(len)
             .collect()
+    }
+
+    /// A remainder of thirteen bits.
+    pub fn remainder(&mut self) -> u16 {
+        self.number() as u16 & LARGEST
     }
 
     /// A byte that is not a bit.

@@ -8,6 +8,7 @@ use harness::face::{
     self, Counts, PackedState, Record, Watch, CANDIDATE, CONFIRMED, LOCKED, TRYING,
 };
 use harness::feeds::time_block;
+use harness::fields::one_replaced;
 use harness::independent::receiver::RUN;
 use harness::independent::watch::{is_proper, refusal, Why};
 use harness::independent::{bits_of, packed_state, Edition, BLOCK, EDITIONS};
@@ -206,18 +207,6 @@ fn every_other_number_names_no_edition() {
     }
 }
 
-/// What may be wrong with the bytes of a run: nothing, or one of them is no bit.
-fn contents(len: usize) -> Vec<Vec<u8>> {
-    let bits = Random::named("contents").bits(len);
-    let mut contents = vec![bits.clone()];
-    for place in [0, len / 2, len.saturating_sub(1)].into_iter().filter(|&place| place < len) {
-        let mut bytes = bits.clone();
-        bytes[place] = 2;
-        contents.push(bytes);
-    }
-    contents
-}
-
 /// Watches of which some have room for so many more bits, some for one too few, and
 /// some are not proper.
 fn watches(edition: Edition, len: usize) -> Vec<Watch> {
@@ -263,7 +252,7 @@ fn tests_come_in_their_order() {
     for (edition, len) in
         EDITIONS.into_iter().flat_map(|edition| [0, 1, 60, RUN, RUN + 1].map(|len| (edition, len)))
     {
-        let contents = contents(len);
+        let contents = one_replaced(&Random::named("contents").bits(len), 2);
         for watch in watches(edition, len) {
             for number in NUMBERS {
                 for bytes in &contents {

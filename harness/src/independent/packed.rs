@@ -1,7 +1,7 @@
 //! The block that stays one number: bit 49 is the first sent, and nothing
 //! stands above it.
 
-use super::{between, bits_of, block, remainder, Fault, BLOCK, PREFIX};
+use super::{between, bits_of, block, number_of, remainder, Fault, BLOCK, PREFIX};
 use crate::refusals::{NOT_A_BIT, NUMBER_TOO_WIDE, OUT_OF_RANGE, WRONG_LENGTH, WRONG_PREFIX};
 
 /// The largest number of fifty bits.
@@ -46,7 +46,7 @@ pub fn pack(bits: &[u8]) -> Result<u64, u8> {
     if bits.iter().any(|&bit| bit > 1) {
         return Err(NOT_A_BIT);
     }
-    Ok(bits.iter().fold(0, |number, &bit| number << 1 | u64::from(bit)))
+    Ok(number_of(bits))
 }
 
 /// The fifty bits to be written into a slice of `len`, or the refusal.

@@ -6,6 +6,7 @@
 use std::collections::HashMap;
 use std::sync::LazyLock;
 
+use super::number_of;
 use crate::face::Polish;
 use crate::refusals::{NO_CODEWORD, WRONG_CRC, WRONG_FIXED_BITS, WRONG_SIZE};
 
@@ -36,7 +37,7 @@ fn cut<const N: usize>(mut bits: &[u8], widths: [usize; N]) -> [u64; N] {
     widths.map(|width| {
         let (number, rest) = bits.split_at(width);
         bits = rest;
-        number.iter().fold(0, |number, &bit| number << 1 | u64::from(bit))
+        number_of(number)
     })
 }
 
