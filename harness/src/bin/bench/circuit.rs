@@ -14,7 +14,7 @@ const FIRST: u64 = remainder(PREFIX);
 
 /// The circuit's turn: a 1 that comes out at the top feeds back.
 #[inline]
-fn turned(register: u64, bit: u8) -> u64 {
+pub fn turned(register: u64, bit: u8) -> u64 {
     let shifted = register << 1 | u64::from(bit);
     if register >> 12 == 1 {
         shifted ^ GENERATOR

@@ -35,18 +35,28 @@ pub fn show<const N: usize>(
     for (name, rate) in names.iter().zip(rates) {
         println!("{what}: {name} {:.1} million {things} per second", rate / 1e6);
     }
+    show_ratios(what, names, best);
+}
+
+/// Prints the first's speed over that of each other.
+pub fn show_ratios<const N: usize>(what: &str, names: [&str; N], best: [Duration; N]) {
     let ratios: Vec<String> = names
         .iter()
-        .zip(rates)
+        .zip(best)
         .skip(1)
-        .map(|(name, rate)| format!("{}/{name} = {:.2}", names[0], rates[0] / rate))
+        .map(|(name, time)| format!("{}/{name} = {:.2}", names[0], ratio(best[0], time)))
         .collect();
     println!("{what}: {}", ratios.join(", "));
 }
 
+/// The speed of what took the first time over that of what took the other.
+fn ratio(time: Duration, other: Duration) -> f64 {
+    other.as_secs_f64() / time.as_secs_f64()
+}
+
 /// Fails unless the first has more than this part of the other's speed.
 pub fn demand(what: &str, names: [&str; 2], best: [Duration; 2], least: f64) {
-    let ratio = best[1].as_secs_f64() / best[0].as_secs_f64();
+    let ratio = ratio(best[0], best[1]);
     let [name, other] = names;
     assert!(
         ratio > least,

@@ -9,6 +9,7 @@ mod circuit_number;
 mod clock;
 mod contest;
 mod in_place;
+mod joining;
 mod numbers;
 mod packed_table;
 mod polish;
@@ -31,6 +32,7 @@ fn main() {
             println!("bench: seed {}", seed());
             blocks::measure();
             numbers::measure();
+            joining::measure();
             receiver::measure();
             watching::measure();
             polish::measure();
