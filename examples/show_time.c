@@ -2,6 +2,7 @@
  * time as a date. A newline is skipped, and any other character ends the feed. */
 #include <stdio.h>
 
+#include "files.h"
 #include "longwave.h"
 #include "reasons.h"
 
@@ -24,13 +25,8 @@ static void receive(FILE *file)
 {
     lw_state state = lw_fresh();
     unsigned long heard = 0;
-    for (int character = getc(file);; character = getc(file)) {
-        if (character == '\n') {
-            continue;
-        }
-        if (character != '0' && character != '1') {
-            return;
-        }
+    for (int character = next_character(file); character == '0' || character == '1';
+         character = next_character(file)) {
         lw_counts counts = lw_feed(LW_EDITION_1984, &state, (uint8_t)(character - '0'));
         heard++;
         /* This bit ended a block, and the block confirmed the time. */
@@ -47,11 +43,7 @@ int main(int argc, char **argv)
                 argc > 0 ? argc - 1 : 0);
         return 2;
     }
-    FILE *file = fopen(argv[1], "r");
-    if (file == NULL) {
-        perror(argv[1]);
-        return 2;
-    }
+    FILE *file = opened(argv[1]);
     receive(file);
     fclose(file);
     return 0;

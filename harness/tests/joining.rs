@@ -1,10 +1,13 @@
 //! Request No. 9 against the library: the remainder of a string, and of two strings
-//! joined, beside long division on paper.
+//! joined, beside long division on paper. Also what the example in C must print.
+
+use std::fs;
 
 use harness::compare::{dividing, joining, reading};
 use harness::face::{self, Remainder};
 use harness::independent::joining::{left, LARGEST, STRING};
 use harness::independent::{bits_of, digits_of, number_of, remainder, BLOCK, PREFIX};
+use harness::program::project;
 use harness::random::{report, Random};
 use harness::refusals::STRING_TOO_LONG;
 
@@ -295,4 +298,26 @@ fn a_sum_of_strings_leaves_the_sum() {
         assert_eq!(dividing(&second), Ok(one ^ other), "{len} bits");
     }
     report("sums of strings", lengths().len());
+}
+
+/// What the example in C says, from its two files.
+#[test]
+fn the_halves_of_the_example() {
+    let text = |name: &str| fs::read_to_string(project(name)).expect("a file of the example");
+    let line = |title: &str, bits: &[u8]| {
+        format!("{title}: {} bits, remainder 0x{:04X}\n", bits.len(), left(bits))
+    };
+    let mut said = String::new();
+    let mut whole = Vec::new();
+    for name in text("examples/join.args").lines() {
+        let half: Vec<u8> = text(name).lines().flat_map(str::bytes).map(|one| one - b'0').collect();
+        said += &line(name, &half);
+        whole.extend(half);
+    }
+    said += &line("both together", &whole);
+    assert_eq!(said, text("examples/join.expected"));
+    // They are good blocks, the first bit of each inverted.
+    for block in whole.chunks(BLOCK) {
+        assert_eq!(reading(&[&[1 - block[0]], &block[1..]].concat()).refusal, 0);
+    }
 }
