@@ -26,10 +26,15 @@ use std::env;
 
 use harness::random::seed;
 
+use contest::emulated;
+
 fn main() {
     match env::args().nth(1).as_deref() {
         None => {
             println!("bench: seed {}", seed());
+            if emulated() {
+                println!("bench: an emulator: ONE round of each; the times say nothing");
+            }
             blocks::measure();
             numbers::measure();
             joining::measure();
