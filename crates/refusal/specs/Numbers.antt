@@ -1,8 +1,8 @@
--- The numbers of the refusals (01, "Numbers given when something is refused"; 02, Nos. 6, 9 and 10).
+-- The numbers of the refusals (01, "Numbers given when something is refused"; 02, Nos. 6, 8, 9 and 10).
 -- Assumes nothing.
 use Prim.Native.Nat.{ℕ}
 use Rattle.refusal.specs.declared.Refusal.{Refusal}
-use Rattle.refusal.specs.declared.Refusal.the-variants.{NotABit, WrongLength, WrongPrefix, WrongCheckWord, NotARecord, OutOfRange, NotInYear, WrongYear, RunTooLong, Improper, NumberTooWide, StringTooLong, NotARemainder, WrongSize, WrongFixedBits, NoCodeword, WrongCrc}
+use Rattle.refusal.specs.declared.Refusal.the-variants.{NotABit, WrongLength, WrongPrefix, WrongCheckWord, NotARecord, OutOfRange, NotInYear, WrongYear, RunTooLong, Improper, NumberTooWide, NoSuchChange, SeveralChanges, StringTooLong, NotARemainder, WrongSize, WrongFixedBits, NoCodeword, WrongCrc}
 
 -- each row of the table, in its order, then those of the requests; 0 is left for "not refused"
 abbrev pub numberOf : Refusal → ℕ
@@ -17,6 +17,8 @@ numberOf WrongYear = 8
 numberOf RunTooLong = 9
 numberOf Improper = 10
 numberOf NumberTooWide = 14
+numberOf NoSuchChange = 15
+numberOf SeveralChanges = 16
 numberOf StringTooLong = 17
 numberOf NotARemainder = 18
 numberOf WrongSize = 19

@@ -26,6 +26,10 @@ pub enum Refusal {
     Improper,
     // A block's number has a bit above place 49.
     NumberTooWide,
+    // No change within six neighbouring places makes a block good.
+    NoSuchChange,
+    // More than one such change makes it good.
+    SeveralChanges,
     // A string, or the second of two that are joined, is longer than 65,536.
     StringTooLong,
     // A remainder that is to be joined is above 8,191.
@@ -56,6 +60,8 @@ pub fn number(refusal: Refusal) -> u8
         Refusal::RunTooLong => 9,
         Refusal::Improper => 10,
         Refusal::NumberTooWide => 14,
+        Refusal::NoSuchChange => 15,
+        Refusal::SeveralChanges => 16,
         Refusal::StringTooLong => 17,
         Refusal::NotARemainder => 18,
         Refusal::WrongSize => 19,
