@@ -4,7 +4,7 @@ use mathlib.Core.Path.{_≡_, refl, sym, ap, ap₂, _∙_, subst}
 use mathlib.Core.Bool.{Bool, true, false, _&&_}
 use mathlib.Core.List.{List, [], _∷_, _++_, append-assoc, append-nil}
 use Prim.Native.Nat.{ℕ, zero, suc, _+_, _-_, _*_, _/_, _%_, _^_, _<_, _≤_}
-use native.Mathlib.Nat.{zero-add, add-suc, pow-suc, mod-lt, le-refl, le-of-suc-le-suc, mul-le-mul-right, div-add-mod'}
+use native.Mathlib.Nat.{zero-add, add-suc, pow-suc, mod-lt, le-refl, le-of-suc-le-suc, mul-le-mul-right, div-add-mod', zero-div}
 use native.Mathlib.Numerals.{add-one}
 use native.Mathlib.Omega.{arith}
 use borrow.Author.Tests.{lt-ltb, le-ltb, ltb-true}
@@ -13,10 +13,11 @@ use lib.Pow.{pow-mono, pow-pos}
 use lib.ListN.{length, getD, take, drop, length-append, length-drop, take-append-drop, drop-of-length-le, length-replicate}
 use lib.Seq.{drop-cons, drop-drop, take-all}
 use lib.Arith.{digits-div, digits-mod}
-use lib.Bits.{bitXor, xor-lt, xor-zero-r, block-half, block-odd}
+use lib.Bits.{bitXor, xor-comm, xor-lt, xor-mod, xor-shr, xor-zero-r, block-half, block-odd}
 use Rattle.block.specs.Bits.{Bits, areBits, zeros, xors, value, valueFrom, bitsOf}
 use Rattle.block.specs.Division.{stepBit, remainderFrom, remainder}
 use Rattle.block.proofs.Linear.{step-lt, rem-xor}
+use Rattle.block.proofs.Xor.{xor-cancel}
 
 -- ---- parts
 
@@ -197,9 +198,10 @@ bitsOf-mod k n = sym (ap (bitsOf k) (sym (div-add-mod' n (2 ^ k))) ∙ bitsOf-ab
 pub val-mod : (k n : ℕ) → value (bitsOf k n) ≡ n % 2 ^ k
 val-mod k n = ap value (sym (bitsOf-mod k n)) ∙ val-bitsOf k (n % 2 ^ k) (mod-lt n (pow-pos k))
 
-pub thirteen-zeros : bitsOf 13 0 ≡ zeros 13
+pub bitsOf-none : (k : ℕ) → bitsOf k 0 ≡ zeros k
 unfolding bitsOf
-thirteen-zeros = refl
+bitsOf-none zero = refl
+bitsOf-none (suc k) = bitsOf-first k 0 ∙ ap₂ (λ (b : ℕ) (bs : List ℕ). b ∷ bs) (ap (λ (n : ℕ). n % 2) (zero-div (2 ^ k))) (bitsOf-none k)
 
 -- two strings of one length that write the same number are the same
 pub val-inj : (xs ys : List ℕ) → Bits xs → Bits ys → length xs ≡ length ys → value xs ≡ value ys → xs ≡ ys
@@ -275,19 +277,42 @@ unfolding xors
 xors-zeros [] = refl
 xors-zeros (b ∷ bs) = ap (λ (l : List ℕ). b ∷ l) (xors-zeros bs)
 
+pub xors-comm : (xs ys : List ℕ) → xors xs ys ≡ xors ys xs
+unfolding xors
+xors-comm [] [] = refl
+xors-comm [] (y ∷ ys) = refl
+xors-comm (x ∷ xs) [] = refl
+xors-comm (x ∷ xs) (y ∷ ys) = ap₂ (λ (b : ℕ) (bs : List ℕ). b ∷ bs) (xor-comm x y) (xors-comm xs ys)
+
+-- a string that is added twice goes off again
+pub xors-cancel : (u v : List ℕ) → length u ≡ length v → xors u (xors u v) ≡ v
+unfolding xors
+xors-cancel [] [] e = refl
+xors-cancel [] (c ∷ cs) e = absurd (omega arith)
+xors-cancel (b ∷ bs) [] e = absurd (omega arith)
+xors-cancel (b ∷ bs) (c ∷ cs) e = ap₂ (λ (x : ℕ) (l : List ℕ). x ∷ l) (xor-cancel b c) (xors-cancel bs cs (omega arith))
+
+pub bitsOf-xor : (k m n : ℕ) → bitsOf k (bitXor m n) ≡ xors (bitsOf k m) (bitsOf k n)
+unfolding bitsOf xors
+bitsOf-xor zero m n = refl
+bitsOf-xor (suc k) m n =
+    bitsOf-first k (bitXor m n)
+    ∙ ap₂ (λ (b : ℕ) (bs : List ℕ). b ∷ bs) (ap (λ (x : ℕ). x % 2) (xor-shr m n k) ∙ xor-mod (m / 2 ^ k) (n / 2 ^ k) 1) (bitsOf-xor k m n)
+    ∙ sym (ap₂ xors (bitsOf-first k m) (bitsOf-first k n))
+
 -- the remainder of at most 13 bits is their value
 pub rem-val : (bs : List ℕ) → Bits bs → length bs ≤ 13 → remainder bs ≡ value bs
 rem-val bs h l = rem-small bs 0 (omega (arith, val-lt bs h, pow-mono l))
 
--- a number that is a remainder is what its thirteen bits leave
-pub rem-of : (n : ℕ) → n < 8192 → remainder (bitsOf 13 n) ≡ n
-rem-of n h = rem-val (bitsOf 13 n) (bits-bitsOf 13 n) (omega (arith, length-bitsOf 13 n)) ∙ val-bitsOf 13 n h
+-- a number that is a remainder is what its bits leave, however many zeros stand in front
+pub rem-number : (k n : ℕ) → n < 2 ^ k → n < 8192 → remainder (bitsOf k n) ≡ n
+rem-number k n h l = let e : value (bitsOf k n) ≡ n = val-bitsOf k n h in rem-small (bitsOf k n) 0 (rw e l) ∙ e
 
 -- the first thirteen bits fill the register as they are
 pub rem-filled : (k n : ℕ) → n / 2 ^ k < 8192 → remainder (bitsOf (13 + k) n) ≡ remainderFrom (n / 2 ^ k) (bitsOf k n)
 rem-filled k n h =
     ap remainder (bitsOf-cut 13 k n) ∙ rem-append (bitsOf 13 (n / 2 ^ k)) (bitsOf k n) 0
-    ∙ ap (λ (r : ℕ). remainderFrom r (bitsOf k n)) (rem-of (n / 2 ^ k) h)
+    ∙ ap (λ (r : ℕ). remainderFrom r (bitsOf k n)) (rem-number 13 (n / 2 ^ k) h h)
 
 -- what the register holds and what the string brings, apart
 pub rem-split : (bs : List ℕ) (r : ℕ) → r < 8192 → Bits bs → remainderFrom r bs ≡ bitXor (remainderFrom r (zeros (length bs))) (remainder bs)

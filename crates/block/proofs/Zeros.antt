@@ -3,15 +3,16 @@
 -- Assumes nothing.
 use mathlib.Core.List.{List, _++_}
 use mathlib.Core.Path.{_≡_, refl, sym, ap, _∙_}
-use Prim.Native.Nat.{ℕ, zero, suc, _+_, _*_, _/_, _<_}
+use Prim.Native.Nat.{ℕ, zero, suc, _+_, _*_, _/_, _^_, _<_}
 use native.Mathlib.Omega.{arith}
-use lib.Bits.{bitXor}
+use lib.Bits.{bitXor, xor-lt, xor-self}
 use lib.ListN.{length-replicate, replicate-append-replicate}
-use Rattle.block.specs.Bits.{Bits, xors, zeros}
+use lib.Pow.{pow-pos}
+use Rattle.block.specs.Bits.{Bits, bitsOf, xors, zeros}
 use Rattle.block.specs.Division.{generator, stepBit, remainderFrom, remainder}
 use Rattle.block.proofs.Xor.{on-bit, xor-eq}
 use Rattle.block.proofs.Linear.{rem-xor, step-is, step-lt}
-use Rattle.block.proofs.Strings.{bits-zeros, rem-append, rem-lt, xors-zeros}
+use Rattle.block.proofs.Strings.{bits-zeros, bitsOf-join, bitsOf-none, rem-append, rem-lt, rem-number, xors-zeros}
 
 -- what the register holds, moved up by n zeros
 abbrev pub up : ℕ → ℕ → ℕ
@@ -28,6 +29,14 @@ up-xor n r s hr hs =
     let e : xors (zeros n) (zeros n) ≡ zeros n = rw length-replicate at (xors-zeros (zeros n)) in
     ap (remainderFrom (bitXor r s)) (sym e) ∙ rem-xor (zeros n) (zeros n) r s hr hs (bits-zeros n) (bits-zeros n) refl
 
+-- a number that is a remainder, with n zeros behind its bits
+pub up-number : (k n r : ℕ) → r < 2 ^ k → r < 8192 → remainder (bitsOf (k + n) (r * 2 ^ n)) ≡ up n r
+up-number k n r h l =
+    let e : r * 2 ^ n ≡ r * 2 ^ n + 0 = omega arith in
+    ap (λ (m : ℕ). remainder (bitsOf (k + n) m)) e
+    ∙ ap remainder (bitsOf-join k n r 0 (pow-pos n) ∙ ap (λ (t : List ℕ). bitsOf k r ++ t) (bitsOf-none n))
+    ∙ rem-append (bitsOf k r) (zeros n) 0 ∙ ap (up n) (rem-number k r h l)
+
 -- ---- backwards
 
 -- the generator is odd, and what moved up one place is even
@@ -36,10 +45,13 @@ step-zero r h e =
     let n : ℕ = r * 2 + 0 in
     on-bit (λ t. n ≡ t * generator → r ≡ 0) (λ d. omega arith) (λ d. omega arith) (n / 8192) (omega arith) (xor-eq n (n / 8192 * generator) (sym (step-is r 0 h (omega arith)) ∙ e))
 
-up-zero : (n r : ℕ) → r < 8192 → up n r ≡ 0 → r ≡ 0
+pub up-zero : (n r : ℕ) → r < 8192 → up n r ≡ 0 → r ≡ 0
 unfolding remainderFrom
 up-zero zero r h e = e
 up-zero (suc n) r h e = step-zero r h (up-zero n (stepBit r 0) (step-lt r 0 h (omega arith)) e)
+
+pub up-same : (n r s : ℕ) → r < 8192 → s < 8192 → up n r ≡ up n s → r ≡ s
+up-same n r s hr hs e = xor-eq r s (up-zero n (bitXor r s) (xor-lt 13 r s hr hs) (up-xor n r s hr hs ∙ ap (λ (x : ℕ). bitXor x (up n s)) e ∙ xor-self (up n s)))
 
 pub rem-back : (n : ℕ) (w : List ℕ) → Bits w → remainder (w ++ zeros n) ≡ 0 → remainder w ≡ 0
 rem-back n w h e = up-zero n (remainder w) (rem-lt w 0 (omega arith) h) (sym (rem-append w (zeros n) 0) ∙ e)

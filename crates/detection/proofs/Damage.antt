@@ -87,11 +87,11 @@ module _ (s e : List ℕ) (g : Good s) (p : Pattern e) where
   prefix-is : prefixIn (xors s e) ≡ bitXor 1 (prefixIn e)
   prefix-is = prefix-xors s e g (p .size)
 
-  size : length (xors s e) ≡ 50
-  size = length-xors s e (omega (arith, g .size, p .size)) ∙ g .size
+  pub changed-size : length (xors s e) ≡ 50
+  changed-size = length-xors s e (omega (arith, g .size, p .size)) ∙ g .size
 
-  bits : Bits (xors s e)
-  bits = bits-xors s e (g .bits) (p .bits)
+  pub changed-bits : Bits (xors s e)
+  changed-bits = bits-xors s e (g .bits) (p .bits)
 
   -- both begin with a 1, so the pattern begins with a 0
   between : Good (xors s e) → remainder e ≡ 0
@@ -101,14 +101,14 @@ module _ (s e : List ℕ) (g : Good s) (p : Pattern e) where
 
   refused-with : Damage e → refusalIn (readOf (xors s e)) ≡ refusedWith (eqb (prefixIn e) 1)
   refused-with d =
-      refused (xors s e) size bits (λ w. not-damage e (p .bits) (omega (arith, p .size)) (omega (arith, p .some)) (between w) d)
+      refused (xors s e) changed-size changed-bits (λ w. not-damage e (p .bits) (omega (arith, p .size)) (omega (arith, p .some)) (between w) d)
       ∙ ap refusedWith (ap (λ (x : ℕ). eqb x 0) prefix-is ∙ on-bit (λ x. eqb (bitXor 1 x) 0 ≡ eqb x 1) refl refl (prefixIn e) (bits-at e 0 (p .bits)))
 
   tells : remainderRead (readOf (xors s e)) ≡ cond (eqb (prefixIn e) 1) 0 (remainder e)
   tells =
       on-bit (λ f. prefixIn e ≡ f → remainderRead (readOf (xors s e)) ≡ cond (eqb f 1) 0 (remainder e))
-      (λ z. told-is (xors s e) size bits (prefix-is ∙ ap (bitXor 1) z) ∙ left-by s e g (p .size) (p .bits) z)
-      (λ o. let f : prefixIn (xors s e) ≡ 0 = prefix-is ∙ ap (bitXor 1) o in ap remainderRead (sym (wrong-prefix (xors s e) size (bits-are (xors s e) bits) (λ q. omega arith))))
+      (λ z. told-is (xors s e) changed-size changed-bits (prefix-is ∙ ap (bitXor 1) z) ∙ left-by s e g (p .size) (p .bits) z)
+      (λ o. let f : prefixIn (xors s e) ≡ 0 = prefix-is ∙ ap (bitXor 1) o in ap remainderRead (sym (wrong-prefix (xors s e) changed-size (bits-are (xors s e) changed-bits) (λ q. omega arith))))
       (prefixIn e) (bits-at e 0 (p .bits)) refl
 
 pub damage-refused : DamageRefused

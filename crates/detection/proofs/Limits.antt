@@ -2,7 +2,7 @@
 -- Assumes nothing.
 use mathlib.Core.List.{List, _∷_, _++_}
 use mathlib.Core.Path.{_≡_, refl, ap, _∙_}
-use Prim.Native.Nat.{ℕ, zero, suc, _+_, _*_, _≤_}
+use Prim.Native.Nat.{ℕ, _+_, _*_}
 use native.Mathlib.Omega.{arith}
 use lib.ListN.{replicate, take, drop, length-replicate}
 use Rattle.block.specs.Bits.{bitsOf, valueFrom, xors, zeros}
@@ -12,10 +12,9 @@ use Rattle.block.specs.Read.{readOf}
 use Rattle.block.specs.declared.Read.the-variants.{Block}
 use Rattle.block.proofs.RoundTrip.{written-good}
 use Rattle.block.proofs.Strings.{are-bits}
-use Rattle.detection.specs.Damage.{Changed}
 use Rattle.detection.specs.Slips.{Message, sent, window}
 use Rattle.detection.specs.Limits.{FourTaken, FourteenTaken, EightAfterTaken, SevenBeforeTaken, FalseLock}
-use Rattle.detection.proofs.Places.{changed-lt}
+use Rattle.detection.proofs.Places.{changed-from, changed-lt}
 use Rattle.detection.proofs.Seams.{length-sent, repeats}
 
 -- ---- damage: the block of code 0 and word 0, changed
@@ -35,11 +34,6 @@ four-taken =
       four = refl;
       taken = record { code = 0; word = 0x40600008; reads = refl };
     }
-
-changed-from : (n : ℕ) (w : List ℕ) (k : ℕ) → Changed (zeros n ++ w) k → n ≤ k
-changed-from zero w k c = omega arith
-changed-from (suc n) w zero c = absurd (omega arith)
-changed-from (suc n) w (suc k) c = omega (arith, changed-from n w k c)
 
 -- the word becomes 1: the generator's own fourteen digits, at the end
 generatorPlaces : List ℕ

@@ -1,7 +1,7 @@
 -- The places of the changes: each lies in the string, where there is none the string is zeros, and where one bit is changed there is one.
 -- Assumes nothing.
 use mathlib.Core.Path.{_≡_, refl, ap₂}
-use mathlib.Core.List.{List, [], _∷_}
+use mathlib.Core.List.{List, [], _∷_, _++_}
 use Prim.Native.Nat.{ℕ, zero, suc, _<_, _≤_}
 use native.Mathlib.Omega.{arith}
 use lib.ListN.{length}
@@ -13,10 +13,23 @@ changed-lt [] k c = absurd (omega arith)
 changed-lt (b ∷ e) zero c = omega arith
 changed-lt (b ∷ e) (suc k) c = omega (arith, changed-lt e k c)
 
-changed-weight : (e : List ℕ) (k : ℕ) → Changed e k → 1 ≤ weight e
+pub changed-weight : (e : List ℕ) (k : ℕ) → Changed e k → 1 ≤ weight e
 changed-weight [] k c = absurd (omega arith)
 changed-weight (b ∷ e) zero c = omega arith
 changed-weight (b ∷ e) (suc k) c = omega (arith, changed-weight e k c)
+
+-- before zeros, and behind them
+pub changed-before : (w : List ℕ) (n k : ℕ) → Changed (w ++ zeros n) k → k < length w
+changed-before [] zero k c = absurd (omega arith)
+changed-before [] (suc n) zero c = absurd (omega arith)
+changed-before [] (suc n) (suc k) c = absurd (omega (arith, changed-before [] n k c))
+changed-before (b ∷ w) n zero c = omega arith
+changed-before (b ∷ w) n (suc k) c = omega (arith, changed-before w n k c)
+
+pub changed-from : (n : ℕ) (w : List ℕ) (k : ℕ) → Changed (zeros n ++ w) k → n ≤ k
+changed-from zero w k c = omega arith
+changed-from (suc n) w zero c = absurd (omega arith)
+changed-from (suc n) w (suc k) c = omega (arith, changed-from n w k c)
 
 pub unchanged : (e : List ℕ) → Bits e → ((k : ℕ) → Changed e k → ⊥) → e ≡ zeros (length e)
 unchanged [] h f = refl

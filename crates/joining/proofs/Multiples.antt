@@ -1,22 +1,21 @@
 -- The product of two remainders is a sum of one of them, moved up as far as each coefficient of the other; and it does not matter in
 -- which order something is moved up and summed, since each turn of the circuit is linear.
 -- Assumes nothing.
-use mathlib.Core.List.{List, [], _∷_, _++_}
+use mathlib.Core.List.{List, [], _∷_}
 use mathlib.Core.Path.{_≡_, refl, sym, ap, ap₂, _∙_}
-use Prim.Native.Nat.{ℕ, zero, suc, _+_, _-_, _*_, _/_, _%_, _^_, _<_, _≤_}
+use Prim.Native.Nat.{ℕ, suc, _+_, _-_, _*_, _^_, _<_, _≤_}
 use native.Mathlib.Nat.{add-comm, zero-mul, one-mul}
 use native.Mathlib.Omega.{arith}
-use lib.Bits.{bitXor, xor-lt, xor-mod, xor-self, xor-shr}
-use lib.ListN.{length, length-append, length-replicate}
+use lib.Bits.{bitXor, xor-lt, xor-self}
+use lib.ListN.{length}
 use lib.Pow.{pow-mono, shl-lt}
-use Rattle.block.specs.Bits.{Bits, bitsOf, value, xors, zeros}
+use Rattle.block.specs.Bits.{Bits, bitsOf}
 use Rattle.block.specs.Division.{stepBit, remainderFrom, remainder}
 use Rattle.block.specs.Polynomials.{product}
 use Rattle.block.proofs.Linear.{rem-xor}
-use Rattle.block.proofs.Stream.{in-front}
-use Rattle.block.proofs.Strings.{bits-append, bits-bitsOf, bits-zeros, bitsOf-first, bitsOf-val, length-bitsOf, rem-append, rem-of, rem-split, val-bitsOf, zeros-behind}
+use Rattle.block.proofs.Strings.{bits-bitsOf, bitsOf-xor, length-bitsOf, rem-split}
 use Rattle.block.proofs.Xor.{on-bit, xor-swap}
-use Rattle.block.proofs.Zeros.{up, up-on, up-lt, up-xor}
+use Rattle.block.proofs.Zeros.{up, up-lt, up-number, up-on, up-xor}
 use Rattle.joining.specs.Joining.{times}
 
 -- a remainder moved up as far as each coefficient of a string, and summed
@@ -101,14 +100,6 @@ product-lt (q ∷ qs) r h l =
     rw places at
     (xor-lt (13 + j) (q * r * 2 ^ j) (product qs r) (shl-lt 13 j (scaled-lt q r (h .0) l)) (omega (arith, product-lt qs r (h .1) l, pow-mono fewer)))
 
-bitsOf-xor : (k m n : ℕ) → bitsOf k (bitXor m n) ≡ xors (bitsOf k m) (bitsOf k n)
-unfolding bitsOf xors
-bitsOf-xor zero m n = refl
-bitsOf-xor (suc k) m n =
-    bitsOf-first k (bitXor m n)
-    ∙ ap₂ (λ (b : ℕ) (bs : List ℕ). b ∷ bs) (ap (λ (x : ℕ). x % 2) (xor-shr m n k) ∙ xor-mod (m / 2 ^ k) (n / 2 ^ k) 1) (bitsOf-xor k m n)
-    ∙ sym (ap₂ xors (bitsOf-first k m) (bitsOf-first k n))
-
 -- what a number of up to k bits leaves is linear in it, and times 2^j moves it up
 left-sum : (k m n : ℕ) → remainder (bitsOf k (bitXor m n)) ≡ bitXor (remainder (bitsOf k m)) (remainder (bitsOf k n))
 left-sum k m n =
@@ -120,13 +111,9 @@ left-none k = left-sum k 0 0 ∙ xor-self (remainder (bitsOf k 0))
 
 left-up : (i j r : ℕ) → r < 8192 → remainder (bitsOf (i + (13 + j)) (r * 2 ^ j)) ≡ up j r
 left-up i j r h =
-    let s : List ℕ = bitsOf 13 r ++ zeros j in
-    let bits : Bits s = bits-append (bitsOf 13 r) (zeros j) (bits-bitsOf 13 r) (bits-zeros j) in
-    let size : length s ≡ 13 + j = length-append (bitsOf 13 r) (zeros j) ∙ ap₂ (λ (a b : ℕ). a + b) (length-bitsOf 13 r) (length-replicate j 0) in
-    let number : value s ≡ r * 2 ^ j = zeros-behind (bitsOf 13 r) j ∙ ap (λ (n : ℕ). n * 2 ^ j) (val-bitsOf 13 r h) in
-    in-front i (13 + j) (r * 2 ^ j) (shl-lt 13 j h)
-    ∙ ap (λ (n : ℕ). remainder (bitsOf (13 + j) n)) (sym number) ∙ ap remainder (bitsOf-val (13 + j) s bits size)
-    ∙ rem-append (bitsOf 13 r) (zeros j) 0 ∙ ap (up j) (rem-of r h)
+    let places : i + (13 + j) ≡ i + 13 + j = omega arith in
+    let fewer : 13 ≤ i + 13 = omega arith in
+    rw places (up-number (i + 13) j r (omega (arith, pow-mono fewer)) h)
 
 left : (k : ℕ) (qs : List ℕ) (r : ℕ) → Bits qs → r < 8192 → length qs + 12 ≤ k → remainder (bitsOf k (product qs r)) ≡ multiple qs r
 unfolding product multiple

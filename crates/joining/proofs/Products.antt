@@ -5,14 +5,14 @@ use Prim.Native.Nat.{ℕ, _<_}
 use native.Mathlib.Omega.{arith}
 use lib.Bits.{bitXor, xor-lt, xor-self}
 use Rattle.block.specs.Bits.{bitsOf}
-use Rattle.block.proofs.Strings.{bits-bitsOf, length-bitsOf, rem-of}
+use Rattle.block.proofs.Strings.{bits-bitsOf, length-bitsOf, rem-number}
 use Rattle.joining.specs.Joining.{times}
 use Rattle.joining.specs.Laws.{Product}
 use Rattle.joining.proofs.Multiples.{multiple, multiple-lt, multiple-one, multiple-sum, multiple-swap, product-lt, times-is}
 
 -- a remainder is what its bits make of 1
 pub of-one : (a : ℕ) → a < 8192 → multiple (bitsOf 13 a) 1 ≡ a
-of-one a h = multiple-one (bitsOf 13 a) (bits-bitsOf 13 a) ∙ rem-of a h
+of-one a h = multiple-one (bitsOf 13 a) (bits-bitsOf 13 a) ∙ rem-number 13 a h h
 
 pub times-lt : (a b : ℕ) → b < 8192 → times a b < 8192
 times-lt a b h = rw (times-is a b h) (multiple-lt (bitsOf 13 a) b (bits-bitsOf 13 a) h)

@@ -1,16 +1,16 @@
 -- A word and what its check symbols miss have the same power sums, so what explains these takes the word to a codeword, and a codeword near
 -- the word would explain them.
 -- Assumes nothing.
-use mathlib.Core.List.{List, [], _∷_, _++_}
-use mathlib.Core.Path.{_≡_, refl, sym, ap, ap₂, _∙_, subst}
+use mathlib.Core.List.{List, _++_}
+use mathlib.Core.Path.{_≡_, sym, ap, _∙_, subst}
 use Prim.Native.Nat.{ℕ, _/_, _%_, _^_}
 use native.Mathlib.Nat.{div-add-mod'}
 use native.Mathlib.Omega.{arith}
 use lib.Bits.{bitXor, xor-self, xor-zero-r}
 use lib.ListN.{length}
 use Rattle.block.specs.Bits.{xors}
-use Rattle.block.proofs.Xor.{xor-cancel, xor-eq}
-use Rattle.block.proofs.Strings.{length-xors}
+use Rattle.block.proofs.Xor.{xor-eq}
+use Rattle.block.proofs.Strings.{length-xors, xors-cancel}
 use Rattle.field16.specs.Words.{Symbols, aTo, at, weight}
 use Rattle.field16.specs.Digits.{digits}
 use Rattle.field16.specs.Field.{times, power}
@@ -23,13 +23,6 @@ use Rattle.wrong_symbols.specs.declared.Explained.the-variants.{TooMany}
 use Rattle.symbols.specs.Code.{Codeword, differing, Near, checksOf}
 use Rattle.symbols.proofs.Encoder.{encoded, length-checks}
 use Rattle.symbols.proofs.Unique.{differing-self, differing-weight}
-
-xors-cancel : (u v : List ℕ) → length u ≡ length v → xors u (xors u v) ≡ v
-unfolding xors
-xors-cancel [] [] e = refl
-xors-cancel [] (c ∷ cs) e = absurd (omega arith)
-xors-cancel (b ∷ bs) [] e = absurd (omega arith)
-xors-cancel (b ∷ bs) (c ∷ cs) e = ap₂ (λ (x : ℕ) (l : List ℕ). x ∷ l) (xor-cancel b c) (xors-cancel bs cs (omega arith))
 
 -- a codeword added changes no power sum
 code-adds-nothing : (w c : List ℕ) → length w ≡ 15 → Codeword c → sixSums (xors w c) ≡ sixSums w
