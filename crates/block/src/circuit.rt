@@ -5,7 +5,7 @@ ghost use Rattle.block.specs.Bits.{bitsOf};
 ghost use Rattle.block.specs.Division.{reduce, stepBit, remainderFrom, remainder};
 
 // x^13+x^12+x^11+x^10+x^7+x^6+x^5+x^4+x^2+1, a digit for each power: below x^13, a 1 is a wire from the top back into that place.
-const GENERATOR: u64 = 0b11_1100_1111_0101;
+pub const GENERATOR: u64 = 0b11_1100_1111_0101;
 
 // A 1 that has left the top place is fed back through the wires. Behind the register may stand bits that are not let in yet.
 fn feed_back(moved: u64, behind: u32) -> u64

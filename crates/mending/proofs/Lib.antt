@@ -1,0 +1,12 @@
+pub mod Backwards
+pub mod Goodness
+pub mod Bursts
+pub mod CutOut
+pub mod FirstPlace
+pub mod OnlyOne
+pub mod Finding
+pub mod Once
+pub mod Repair
+pub mod Nearness
+pub mod Limits
+pub mod Determined
