@@ -19,6 +19,8 @@ static inline const char *reason_of(uint8_t refusal)
     case LW_RUN_TOO_LONG: return "a run is longer than 65,536 bits";
     case LW_IMPROPER: return "the state or the watch is not proper";
     case LW_NUMBER_TOO_WIDE: return "a number has a bit above place 49";
+    case LW_NO_SUCH_CHANGE: return "no change within six neighbouring places makes the block good";
+    case LW_SEVERAL_CHANGES: return "more than one such change makes the block good";
     case LW_STRING_TOO_LONG: return "a string is longer than 65,536 bits";
     case LW_NOT_A_REMAINDER: return "a remainder is above 8191";
     case LW_WRONG_SIZE: return "a frame is not 12 bytes long, or a field is too wide";

@@ -48,6 +48,8 @@ enum {
                                  watch was fed past 2^64 - 1 */
     LW_IMPROPER = 10,         /* the state or the watch is not proper */
     LW_NUMBER_TOO_WIDE = 14,  /* a number has a bit above place 49 */
+    LW_NO_SUCH_CHANGE = 15,   /* no change within six neighbouring places makes the block good */
+    LW_SEVERAL_CHANGES = 16,  /* more than one does; it never comes in fifty bits */
     LW_STRING_TOO_LONG = 17,  /* a string, or the second of two that are joined, is longer than
                                  65,536 bits */
     LW_NOT_A_REMAINDER = 18,  /* a remainder to be joined is above 8191 */
@@ -114,6 +116,27 @@ lw_packed lw_pack(const uint8_t *bits, size_t len);
  * it is a good block or not. Answers 0, or a refusal, in this order: 2, 14; the
  * bytes then stay as they are. */
 uint8_t lw_unpack(uint64_t block, uint8_t *bits, size_t len);
+
+/* What mending changed; place and pattern are 0 where refused, and where the block
+ * was good. */
+typedef struct lw_mended {
+    uint8_t refusal;
+    uint8_t place;   /* the first changed place, from 0 (the prefix) to 49 */
+    uint8_t pattern; /* the six places from there on, the first highest (32): 1 where changed,
+                        0 where not and past the end of the block */
+} lw_mended;
+
+/* Mends a logged block where it stands, and answers what was changed. It is mended
+ * exactly when one set of changes, all within six neighbouring places, makes it
+ * good, and no other does; a good block is handed back as it is. Where the prefix
+ * is 0, the change must begin with it.
+ *
+ * Every burst within six places is put right so, whatever block was sent. A longer
+ * burst, or damage here and there, may be mended to another block than was sent, or
+ * refused. Therefore no other call mends a block, neither reading nor the live feed.
+ *
+ * Refusals, in this order: 2, 1, 15, 16; the bytes then stay as they are. */
+lw_mended lw_mend_block(uint8_t *bits, size_t len);
 
 /* What a string of bits leaves when it is divided by the generator that lw_block
  * names, the first bit for the highest power of x and the last for x^0. No bit is
