@@ -6,7 +6,6 @@
  * second. Such a block leaves 0, so all three do. */
 #include <inttypes.h>
 #include <stdio.h>
-#include <stdlib.h>
 
 #include "files.h"
 #include "longwave.h"
@@ -26,11 +25,7 @@ static size_t bits_of_file(const char *name, uint8_t bits[MOST + 1])
         bits[len] = (uint8_t)(character - '0');
         len++;
     }
-    if (ferror(file)) {
-        perror(name);
-        exit(2);
-    }
-    fclose(file);
+    close_read(name, file);
     return len;
 }
 

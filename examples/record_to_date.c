@@ -19,7 +19,7 @@ int main(int argc, char **argv)
                 argc > 0 ? argc - 1 : 0);
         return 2;
     }
-    uint32_t word = number_of("word", argv[1], UINT32_MAX);
+    uint32_t word = (uint32_t)number_of("word", argv[1], UINT32_MAX);
     uint16_t first_year = (uint16_t)number_of("year", argv[2], UINT16_MAX);
 
     lw_recorded recorded = lw_read_record(LW_EDITION_1984, 0, word);

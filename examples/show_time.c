@@ -38,12 +38,7 @@ static void receive(FILE *file)
 
 int main(int argc, char **argv)
 {
-    if (argc != 2) {
-        fprintf(stderr, "expected one argument, the name of a file, got %d\n",
-                argc > 0 ? argc - 1 : 0);
-        return 2;
-    }
-    FILE *file = opened(argv[1]);
+    FILE *file = opened(named(argc, argv));
     receive(file);
     fclose(file);
     return 0;

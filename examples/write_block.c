@@ -14,7 +14,7 @@ int main(int argc, char **argv)
         return 2;
     }
     uint8_t code = (uint8_t)number_of("code", argv[1], 15);
-    uint32_t word = number_of("word", argv[2], UINT32_MAX);
+    uint32_t word = (uint32_t)number_of("word", argv[2], UINT32_MAX);
 
     uint8_t bits[BLOCK];
     uint8_t refusal = lw_write_block(code, word, bits, BLOCK);
