@@ -2,6 +2,7 @@
 //! answers and every lent byte must agree, and no byte beside them may change.
 
 mod joining;
+mod mending;
 mod packed;
 mod polish;
 mod receiver;
@@ -9,6 +10,7 @@ mod record;
 mod watch;
 
 pub use joining::*;
+pub use mending::*;
 pub use packed::*;
 pub use polish::*;
 pub use receiver::*;

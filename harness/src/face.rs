@@ -1,6 +1,7 @@
 //! Safe calls to the library, as `include/longwave.h` declares them.
 
 mod joining;
+mod mending;
 mod packed;
 mod packed_state;
 mod polish;
@@ -9,6 +10,7 @@ mod record;
 mod watch;
 
 pub use joining::*;
+pub use mending::*;
 pub use packed::*;
 pub use packed_state::*;
 pub use polish::*;

@@ -1,8 +1,8 @@
 //! The answers, written from documents 01 and 02 alone. Here the block, by long
-//! division on one number; the block that stays a number, the editions, the
-//! record, the calendar, the receiver, its packed state, what is told of it when
-//! it is watched, the remainders of strings, and the Polish frame have files of
-//! their own.
+//! division on one number; the block that stays a number, the block that is mended,
+//! the editions, the record, the calendar, the receiver, its packed state, what is
+//! told of it when it is watched, the remainders of strings, and the Polish frame
+//! have files of their own.
 //!
 //! A polynomial modulo 2 is a number, one bit for each power of x, and a block
 //! is its fifty bits as one number: bit 49 is the first sent.
@@ -10,6 +10,7 @@
 pub mod calendar;
 pub mod edition;
 pub mod joining;
+pub mod mending;
 pub mod packed;
 pub mod packed_state;
 pub mod polish;

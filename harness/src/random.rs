@@ -23,6 +23,14 @@ pub fn report(what: &str, count: usize) {
     println!("{what}: {count} compared, seed {}", seed());
 }
 
+/// Good blocks: the two extremes, then random ones.
+pub fn good_blocks(name: &str, count: usize) -> Vec<u64> {
+    let mut random = Random::named(name);
+    let mut blocks = vec![block(0, 0), block(15, u32::MAX)];
+    blocks.resize_with(count, || random.block());
+    blocks
+}
+
 /// The generator known as splitmix64.
 pub struct Random(u64);
 

@@ -1,6 +1,7 @@
 //! Windows of fifty bits that do not start where a block starts.
 
-use crate::independent::{block, remainder, BLOCK, PREFIX};
+use crate::independent::packed::fault;
+use crate::independent::{block, BLOCK, PREFIX};
 use crate::random::Random;
 
 /// Starts, counted from a block's start, at which no messages make a window
@@ -61,12 +62,6 @@ fn mended(start: u128, bits: usize, window_of: impl Fn(u128) -> u64) -> Option<u
     }
     let (left, bits) = reduced(&basis, (fault_of(start), start));
     (left == 0).then_some(bits)
-}
-
-/// Zero exactly where the window is a good block.
-fn fault(window: u64) -> u64 {
-    let inverted = window ^ PREFIX;
-    inverted & PREFIX | remainder(inverted & (PREFIX - 1))
 }
 
 /// Two codes and words from 72 bits.

@@ -8,17 +8,9 @@ use harness::changes;
 use harness::compare::reading;
 use harness::face::Block;
 use harness::independent::{bits_of, block, remainder, BLOCK, PREFIX};
-use harness::random::{report, Random};
+use harness::random::{good_blocks, report, Random};
 use harness::refusals::{WRONG_CHECK_WORD, WRONG_PREFIX};
 use harness::slips;
-
-/// Good blocks: the two extremes, then random ones.
-fn good_blocks(name: &str, count: usize) -> Vec<u64> {
-    let mut random = Random::named(name);
-    let mut blocks = vec![block(0, 0), block(15, u32::MAX)];
-    blocks.resize_with(count, || random.block());
-    blocks
-}
 
 /// What a good block tells whose places are so changed: nothing where the prefix
 /// is among them, else the remainder of the changes alone.

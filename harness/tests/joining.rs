@@ -1,13 +1,11 @@
 //! Request No. 9 against the library: the remainder of a string, and of two strings
 //! joined, beside long division on paper. Also what the example in C must print.
 
-use std::fs;
-
 use harness::compare::{dividing, joining, reading};
 use harness::face::{self, Remainder};
 use harness::independent::joining::{left, LARGEST, STRING};
 use harness::independent::{bits_of, digits_of, number_of, remainder, BLOCK, PREFIX};
-use harness::program::project;
+use harness::program::text;
 use harness::random::{report, Random};
 use harness::refusals::STRING_TOO_LONG;
 
@@ -303,7 +301,6 @@ fn a_sum_of_strings_leaves_the_sum() {
 /// What the example in C says, from its two files.
 #[test]
 fn the_halves_of_the_example() {
-    let text = |name: &str| fs::read_to_string(project(name)).expect("a file of the example");
     let line = |title: &str, bits: &[u8]| {
         format!("{title}: {} bits, remainder 0x{:04X}\n", bits.len(), left(bits))
     };

@@ -24,6 +24,14 @@ pub fn read(block: u64) -> Result<(u8, u32), Fault> {
     Ok(((block >> 45 & 15) as u8, (block >> 13) as u32))
 }
 
+/// What keeps fifty bits from being a good block, as fourteen bits: a wrong prefix
+/// above the remainder of the rest. It is zero exactly where they are good, and a
+/// change adds an amount of its own to it, whatever they are.
+pub fn fault(block: u64) -> u64 {
+    let inverted = block ^ PREFIX;
+    inverted >> 49 << 13 | remainder(inverted & (PREFIX - 1))
+}
+
 /// The block, or the refusal.
 pub fn write(code: u8, word: u32) -> Result<u64, u8> {
     if code > 15 {
