@@ -10,6 +10,8 @@ mod clock;
 mod contest;
 mod in_place;
 mod joining;
+mod mending;
+mod mending_table;
 mod numbers;
 mod packed_table;
 mod polish;
@@ -37,6 +39,7 @@ fn main() {
             }
             blocks::measure();
             numbers::measure();
+            mending::measure();
             joining::measure();
             receiver::measure();
             watching::measure();

@@ -22,6 +22,20 @@ pub fn step(register: u16, byte: u8) -> u16 {
     (register << 8 & 0x1FFF) ^ TABLE[usize::from((register >> 5) as u8 ^ byte)]
 }
 
+/// Code, word, and what the division leaves of all but the prefix.
+#[inline(always)]
+pub fn divided(bits: &[u8; BLOCK]) -> (u8, u32, u16) {
+    let code = number_of(&bits[1..5]) as u8;
+    let mut register = step(0, code);
+    let mut word = 0;
+    for eight in bits[5..37].chunks_exact(8) {
+        let byte = number_of(eight) as u8;
+        register = step(register, byte);
+        word = word << 8 | u32::from(byte);
+    }
+    (code, word, register ^ number_of(&bits[37..]))
+}
+
 pub fn read(bits: &[u8]) -> Block {
     let Ok(bits) = <&[u8; BLOCK]>::try_from(bits) else {
         return Block::refused(WRONG_LENGTH);
@@ -32,15 +46,7 @@ pub fn read(bits: &[u8]) -> Block {
     if bits[0] == 0 {
         return Block::refused(WRONG_PREFIX);
     }
-    let code = number_of(&bits[1..5]) as u8;
-    let mut register = step(0, code);
-    let mut word = 0;
-    for eight in bits[5..37].chunks_exact(8) {
-        let byte = number_of(eight) as u8;
-        register = step(register, byte);
-        word = word << 8 | u32::from(byte);
-    }
-    let left = register ^ number_of(&bits[37..]);
+    let (code, word, left) = divided(bits);
     if left != 0 {
         return Block::leaving(left);
     }

@@ -11,6 +11,11 @@ fn check_word(code: u8, word: u32) -> u16 {
     word.to_be_bytes().into_iter().fold(step(0, code), step)
 }
 
+/// What the division leaves of all but the prefix.
+pub fn left(block: u64) -> u16 {
+    check_word((block >> 45 & 15) as u8, (block >> 13) as u32) ^ block as u16 & 0x1FFF
+}
+
 pub extern "C" fn read(block: u64) -> Block {
     if block >= PREFIX * 2 {
         return Block::refused(NUMBER_TOO_WIDE);
@@ -18,12 +23,11 @@ pub extern "C" fn read(block: u64) -> Block {
     if block < PREFIX {
         return Block::refused(WRONG_PREFIX);
     }
-    let (code, word) = ((block >> 45 & 15) as u8, (block >> 13) as u32);
-    let left = check_word(code, word) ^ block as u16 & 0x1FFF;
+    let left = left(block);
     if left != 0 {
         return Block::leaving(left);
     }
-    Block::taken(code, word)
+    Block::taken((block >> 45 & 15) as u8, (block >> 13) as u32)
 }
 
 pub fn write(code: u8, word: u32) -> Packed {
