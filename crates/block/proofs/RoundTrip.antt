@@ -12,7 +12,7 @@ use Rattle.block.specs.Read.{readOf}
 use Rattle.block.specs.declared.Read.the-variants.{Block}
 use Rattle.block.proofs.CheckWord.{check-lt}
 use Rattle.block.proofs.Reading.{good-reads}
-use Rattle.block.proofs.Strings.{bits-append, bits-bitsOf, bitsOf-above, bitsOf-join, bitsOf-none, length-bitsOf, val-bitsOf, val-cons, val-join}
+use Rattle.block.proofs.Strings.{bits-append, bits-bitsOf, bitsOf-above, bitsOf-join, bitsOf-up, length-bitsOf, val-bitsOf, val-cons, val-join}
 
 module _ (code word : ℕ) where
   pub length-body : length (bodyOf code word) ≡ 36
@@ -35,9 +35,9 @@ module _ (code word : ℕ) where
   pub open-body : word < 2 ^ 32 → code < 16 → bitsOf 49 (2 ^ 49 + (code * 2 ^ 32 + word) * 2 ^ 13) ≡ bodyOf code word ++ zeros 13
   open-body hw hc =
       let b : ℕ = code * 2 ^ 32 + word in
-      let e : 2 ^ 49 + b * 2 ^ 13 ≡ 1 * 2 ^ 49 + (b * 2 ^ 13 + 0) = omega arith in
-      ap (bitsOf 49) e ∙ bitsOf-above 49 1 (b * 2 ^ 13 + 0) (omega arith)
-      ∙ bitsOf-join 36 13 b 0 (omega arith) ∙ ap₂ (λ (x y : List ℕ). x ++ y) (body-number hw) (bitsOf-none 13)
+      let e : 2 ^ 49 + b * 2 ^ 13 ≡ 1 * 2 ^ 49 + b * 2 ^ 13 = omega arith in
+      ap (bitsOf 49) e ∙ bitsOf-above 49 1 (b * 2 ^ 13) (omega arith)
+      ∙ bitsOf-up 36 13 b ∙ ap (λ (l : List ℕ). l ++ zeros 13) (body-number hw)
 
   -- and the check word takes the place of the zeros
   pub block-number : word < 2 ^ 32 → code < 16 → value (blockOf code word) ≡ 2 ^ 49 + (code * 2 ^ 32 + word) * 2 ^ 13 + checkOf (bodyOf code word)

@@ -203,6 +203,12 @@ unfolding bitsOf
 bitsOf-none zero = refl
 bitsOf-none (suc k) = bitsOf-first k 0 ∙ ap₂ (λ (b : ℕ) (bs : List ℕ). b ∷ bs) (ap (λ (n : ℕ). n % 2) (zero-div (2 ^ k))) (bitsOf-none k)
 
+-- a number moved up has zeros behind its bits
+pub bitsOf-up : (j k n : ℕ) → bitsOf (j + k) (n * 2 ^ k) ≡ bitsOf j n ++ zeros k
+bitsOf-up j k n =
+    let e : n * 2 ^ k ≡ n * 2 ^ k + 0 = omega arith in
+    ap (bitsOf (j + k)) e ∙ bitsOf-join j k n 0 (pow-pos k) ∙ ap (λ (l : List ℕ). bitsOf j n ++ l) (bitsOf-none k)
+
 -- two strings of one length that write the same number are the same
 pub val-inj : (xs ys : List ℕ) → Bits xs → Bits ys → length xs ≡ length ys → value xs ≡ value ys → xs ≡ ys
 val-inj [] [] hx hy l e = refl

@@ -1,18 +1,20 @@
 -- Zeros behind a string move what the register holds up, a place each: they add up, a sum moves up as its parts do, and the circuit
--- can be run backwards over them, so they make nothing only out of nothing.
+-- can be run backwards over them, so they make nothing only out of nothing, and different things out of different ones.
 -- Assumes nothing.
+use mathlib.Core.Bool.{Bool, true, _&&_}
 use mathlib.Core.List.{List, _++_}
 use mathlib.Core.Path.{_≡_, refl, sym, ap, _∙_}
-use Prim.Native.Nat.{ℕ, zero, suc, _+_, _*_, _/_, _^_, _<_}
+use Prim.Native.Nat.{ℕ, zero, suc, _+_, _*_, _/_, _^_, _<_, _≤_}
 use native.Mathlib.Omega.{arith}
 use lib.Bits.{bitXor, xor-lt, xor-self}
+use lib.Dec.{T, leb, leb→le}
 use lib.ListN.{length-replicate, replicate-append-replicate}
-use lib.Pow.{pow-pos}
+use mir.Facts.{and-yes}
 use Rattle.block.specs.Bits.{Bits, bitsOf, xors, zeros}
 use Rattle.block.specs.Division.{generator, stepBit, remainderFrom, remainder}
 use Rattle.block.proofs.Xor.{on-bit, xor-eq}
 use Rattle.block.proofs.Linear.{rem-xor, step-is, step-lt}
-use Rattle.block.proofs.Strings.{bits-zeros, bitsOf-join, bitsOf-none, rem-append, rem-lt, rem-number, xors-zeros}
+use Rattle.block.proofs.Strings.{bits-zeros, bitsOf-up, rem-append, rem-lt, rem-number, xors-zeros}
 
 -- what the register holds, moved up by n zeros
 abbrev pub up : ℕ → ℕ → ℕ
@@ -32,10 +34,18 @@ up-xor n r s hr hs =
 -- a number that is a remainder, with n zeros behind its bits
 pub up-number : (k n r : ℕ) → r < 2 ^ k → r < 8192 → remainder (bitsOf (k + n) (r * 2 ^ n)) ≡ up n r
 up-number k n r h l =
-    let e : r * 2 ^ n ≡ r * 2 ^ n + 0 = omega arith in
-    ap (λ (m : ℕ). remainder (bitsOf (k + n) m)) e
-    ∙ ap remainder (bitsOf-join k n r 0 (pow-pos n) ∙ ap (λ (t : List ℕ). bitsOf k r ++ t) (bitsOf-none n))
-    ∙ rem-append (bitsOf k r) (zeros n) 0 ∙ ap (up n) (rem-number k r h l)
+    ap remainder (bitsOf-up k n r) ∙ rem-append (bitsOf k r) (zeros n) 0 ∙ ap (up n) (rem-number k r h l)
+
+-- a test that the checker computes: at each of n turns with a 0 the register holds the limit or more
+abbrev pub above : ℕ → ℕ → ℕ → Bool
+above limit zero r = true
+above limit (suc n) r = leb limit (stepBit r 0) && above limit n (stepBit r 0)
+
+pub at-above : (limit n r k : ℕ) → T (above limit n r) → k < n → limit ≤ up (suc k) r
+unfolding remainderFrom
+at-above limit zero r k t h = absurd (omega arith)
+at-above limit (suc n) r zero t h = leb→le limit (stepBit r 0) (and-yes (leb limit (stepBit r 0)) (above limit n (stepBit r 0)) t .0)
+at-above limit (suc n) r (suc k) t h = at-above limit n (stepBit r 0) k (and-yes (leb limit (stepBit r 0)) (above limit n (stepBit r 0)) t .1) (omega arith)
 
 -- ---- backwards
 

@@ -6,7 +6,6 @@ use mathlib.Core.Path.{_≡_, refl, sym, ap, _∙_}
 use Prim.Native.Nat.{ℕ, zero, suc, _+_, _<_, _≤_, min}
 use native.Mathlib.Decide.{decLe}
 use native.Mathlib.Omega.{arith}
-use lib.Dec.{T, leb, leb→le}
 use lib.ListN.{length, take, drop, length-take, length-drop}
 use lib.Pow.{pow-mono}
 use lib.Seq.{getD-take, take-add}
@@ -14,19 +13,15 @@ use Rattle.block.specs.Bits.{Bits, zeros}
 use Rattle.block.specs.Division.{stepBit, remainderFrom, remainder}
 use Rattle.block.proofs.Xor.{on-bit, xor-eq}
 use Rattle.block.proofs.Strings.{bits-take, bits-drop, rem-append, rem-val, rem-split, val-lt}
-use Rattle.block.proofs.Zeros.{up-lt, up-on}
+use Rattle.block.proofs.Zeros.{at-above, up-lt, up-on}
 use Rattle.detection.specs.Damage.{Changed, Among}
-use Rattle.block.proofs.Below.{below, at-below}
 use Rattle.detection.proofs.Places.{changed-lt, unchanged}
 use Rattle.detection.proofs.Burst.{cut, not-burst}
 
-above : (v n : ℕ) → T (below 50 (λ n. leb 4 (remainderFrom v (zeros (suc n))))) → n < 50 → 4 ≤ remainderFrom v (zeros (suc n))
-above v n t h = leb→le 4 (remainderFrom v (zeros (suc n))) (at-below 50 (λ n. leb 4 (remainderFrom v (zeros (suc n)))) t n h)
-
 far : (x n : ℕ) → x < 2 → 1 ≤ n → n ≤ 50 → 4 ≤ remainderFrom (2 + x) (zeros n)
-unfolding remainderFrom
+unfolding stepBit
 far x zero hx h l = absurd (omega arith)
-far x (suc n) hx h l = on-bit (λ x. 4 ≤ remainderFrom (2 + x) (zeros (suc n))) (above 2 n tt l) (above 3 n tt l) x hx
+far x (suc n) hx h l = on-bit (λ x. 4 ≤ remainderFrom (2 + x) (zeros (suc n))) (at-above 4 50 2 n tt l) (at-above 4 50 3 n tt l) x hx
 
 step-one : (x : ℕ) → x < 2 → stepBit 1 x ≡ 2 + x
 unfolding stepBit

@@ -1,4 +1,5 @@
--- The places of the changes: each lies in the string, where there is none the string is zeros, and where one bit is changed there is one.
+-- The places of the changes: each lies in the string, and none among zeros before or behind; where there is none the string is zeros, and
+-- where one bit is changed there is one.
 -- Assumes nothing.
 use mathlib.Core.Path.{_≡_, refl, ap₂}
 use mathlib.Core.List.{List, [], _∷_, _++_}
@@ -18,7 +19,7 @@ changed-weight [] k c = absurd (omega arith)
 changed-weight (b ∷ e) zero c = omega arith
 changed-weight (b ∷ e) (suc k) c = omega (arith, changed-weight e k c)
 
--- before zeros, and behind them
+-- before zeros at the end, and behind zeros at the beginning
 pub changed-before : (w : List ℕ) (n k : ℕ) → Changed (w ++ zeros n) k → k < length w
 changed-before [] zero k c = absurd (omega arith)
 changed-before [] (suc n) zero c = absurd (omega arith)

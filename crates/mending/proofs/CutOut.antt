@@ -3,7 +3,6 @@
 use mathlib.Core.List.{List, [], _∷_, _++_}
 use mathlib.Core.Path.{_≡_, sym, ap, ap₂, _∙_}
 use Prim.Native.Nat.{ℕ, zero, suc, _+_, _-_, _*_, _^_, _<_, _≤_, min}
-use native.Mathlib.Decide.{decLe}
 use native.Mathlib.Omega.{arith}
 use lib.ListN.{length, take, drop, length-drop, length-take, take-append-drop}
 use lib.Seq.{getD-drop, getD-take}
@@ -31,7 +30,7 @@ cut-out t j n h l f =
     ∙ ap₂ (λ (x y : List ℕ). x ++ y) (one ∙ ap zeros lone)
     (parts t j 6 ∙ ap₂ (λ (x y : List ℕ). x ++ y) (sym (bitsOf-val 6 six (bits-take 6 (drop j t) (bits-drop j t h)) lsix)) (two ∙ ap zeros ltwo))
 
-some-value : (e : List ℕ) → 1 ≤ weight e → 0 < value e
+pub some-value : (e : List ℕ) → 1 ≤ weight e → 0 < value e
 unfolding valueFrom
 some-value [] w = absurd (omega arith)
 some-value (zero ∷ e) w = some-value e (omega arith)
@@ -54,9 +53,7 @@ burst-six e b =
     cut-out e j n (b .pattern .bits) (omega arith)
     (λ k c. let i = b .within .among k c in record { from = omega (arith, i .from); to = omega (arith, i .to, changed-lt e k c) }) in
     let is : value e ≡ w * 2 ^ n = ap value cut ∙ between-zeros (bitsOf 6 v) j n in
-    let some : 0 < w =
-    elim (decLe 1 w) [ yes l ↦ l | no l ↦ absurd (let z : w ≡ 0 = omega arith in let none : value e ≡ 0 * 2 ^ n = is ∙ ap (λ (a : ℕ). a * 2 ^ n) z in omega (arith, some-value e (b .pattern .some))) ] in
-    rw is (six-of n w (omega arith) some (omega (arith, val-mod 6 v)))
+    rw is (six-of n w (omega arith) (omega (arith, val-mod 6 v)))
 
 -- the first changed place
 pub first-of : (e : List ℕ) → Bits e → 1 ≤ weight e → (k : ℕ) × First e k

@@ -80,12 +80,13 @@ module _ (n left rest behind : ℕ) (h : n < 2 ^ 50) (e : left ≡ remainder (in
     mended-bits : bitsOf 50 mended ≡ xors s (bitsOf 50 changes)
     mended-bits = ap (λ (m : ℕ). bitsOf 50 (bitXor n m)) shifted ∙ bitsOf-xor 50 n changes
 
+    abbrev found : Six changes
+    found = record { rest = rest; behind = behind; is = refl; small = fits; inside = t .inside; filled = t .filled }
+
     -- the only change that there can be
     the-change : (c : List ℕ) → Makes s c → xors s c ≡ bitsOf 50 mended
     the-change c m =
-        let q = burst-six c (m .burst) in
-        let is : value c ≡ changes =
-        q .is ∙ same-places (q .behind) (q .rest) behind rest (q .small) fits (q .inside) (t .inside) (q .filled) (t .filled) (makes-up c m ∙ sym (t .forth)) in
+        let is : value c ≡ changes = same-places (burst-six c (m .burst)) found (makes-up c m ∙ sym (t .forth)) in
         ap (xors s) (sym (burst-places c (m .burst)) ∙ ap (bitsOf 50) is) ∙ sym mended-bits
 
     prefix-of : (m : ℕ) → prefixIn (bitsOf 50 m) ≡ m / 2 ^ 49 % 2
@@ -118,11 +119,10 @@ module _ (n left rest behind : ℕ) (h : n < 2 ^ 50) (e : left ≡ remainder (in
       pub put-right : 0 < rest → {place pattern : ℕ} → FromFirst changes place pattern → Asks (Block place pattern) (changes % 2 ^ 64)
       put-right p {place} {pattern} f =
           let c : List ℕ = bitsOf 50 changes in
-          let q : Six changes = record { rest = rest; behind = behind; is = refl; some = p; small = fits; inside = t .inside; filled = t .filled } in
           let makes : Makes s c =
           record {
             burst = told-burst changes place pattern f;
-            good = makes-good s c size bits (length-bitsOf 50 changes) (bits-bitsOf 50 changes) (ap prefixIn (sym mended-bits) ∙ prefix-one) (six-left q ∙ t .forth ∙ e);
+            good = makes-good s c size bits (length-bitsOf 50 changes) (bits-bitsOf 50 changes) (ap prefixIn (sym mended-bits) ∙ prefix-one) (six-left found ∙ t .forth ∙ e);
           } in (
             places-lt,
             subst (Mends s (Block place pattern)) (sym mended-bits)

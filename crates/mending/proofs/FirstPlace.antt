@@ -5,10 +5,9 @@ use mathlib.Core.Path.{_≡_, sym, ap, ap₂, _∙_}
 use Prim.Native.Nat.{ℕ, _+_, _-_, _*_, _/_, _%_, _^_}
 use native.Mathlib.Omega.{arith}
 use lib.ListN.{length, getD, take, drop, length-append, length-replicate, List·getD-append}
-use lib.Pow.{pow-pos}
 use lib.Seq.{drop-at, getD-at, take-at}
 use Rattle.block.specs.Bits.{bitsOf, value, zeros}
-use Rattle.block.proofs.Strings.{bits-bitsOf, bitsOf-first, bitsOf-join, bitsOf-none, length-bitsOf, val-bitsOf}
+use Rattle.block.proofs.Strings.{bits-bitsOf, bitsOf-first, bitsOf-join, bitsOf-none, bitsOf-up, length-bitsOf, val-bitsOf}
 use Rattle.detection.specs.Damage.{Changed, Among}
 use Rattle.detection.proofs.Places.{changed-before, changed-from, changed-lt, changed-weight}
 use Rattle.mending.specs.Changes.{Burst, First, sixFrom}
@@ -30,14 +29,12 @@ module _ (m place pattern : ℕ) (f : FromFirst m place pattern) where
   spread : places ++ zeros 5 ≡ zeros place ++ (bitsOf 6 pattern ++ zeros (49 - place))
   spread =
       let n : ℕ = 49 - place in
-      let one : m * 2 ^ 5 + 0 ≡ pattern * 2 ^ n + 0 = omega (arith, f .is) in
-      let two : pattern ≡ 0 * 2 ^ 6 + pattern = omega arith in
+      let same : m * 2 ^ 5 ≡ pattern * 2 ^ n = omega (arith, f .is) in
+      let alone : pattern ≡ 0 * 2 ^ 6 + pattern = omega arith in
       let size : 55 ≡ place + 6 + n = omega (arith, f .inside) in
-      ap (λ (t : List ℕ). places ++ t) (sym (bitsOf-none 5)) ∙ sym (bitsOf-join 50 5 m 0 (pow-pos 5)) ∙ ap₂ bitsOf size one
-      ∙ bitsOf-join (place + 6) n pattern 0 (pow-pos n)
-      ∙ ap₂ (λ (x y : List ℕ). x ++ y)
-      (ap (bitsOf (place + 6)) two ∙ bitsOf-join place 6 0 pattern (f .low) ∙ ap (λ (t : List ℕ). t ++ bitsOf 6 pattern) (bitsOf-none place))
-      (bitsOf-none n)
+      sym (bitsOf-up 50 5 m) ∙ ap₂ bitsOf size same ∙ bitsOf-up (place + 6) n pattern
+      ∙ ap (λ (l : List ℕ). l ++ zeros n)
+      (ap (bitsOf (place + 6)) alone ∙ bitsOf-join place 6 0 pattern (f .low) ∙ ap (λ (l : List ℕ). l ++ bitsOf 6 pattern) (bitsOf-none place))
       ∙ append-assoc (zeros place) (bitsOf 6 pattern) (zeros n)
 
   -- the first of the six is a 1

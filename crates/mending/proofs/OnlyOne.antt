@@ -2,7 +2,7 @@
 -- Assumes nothing.
 use mathlib.Core.List.{List}
 use mathlib.Core.Path.{_≡_, sym, ap, _∙_}
-use Prim.Native.Nat.{ℕ}
+use Prim.Native.Nat.{ℕ, _*_, _^_}
 use native.Mathlib.Omega.{arith}
 use lib.ListN.{length}
 use Rattle.block.specs.Bits.{Bits, bitsOf, value}
@@ -13,7 +13,7 @@ use Rattle.block.proofs.Zeros.{up, up-zero}
 use Rattle.mending.specs.Changes.{Burst, Makes}
 use Rattle.mending.specs.Mending.{good}
 use Rattle.mending.proofs.Bursts.{six-left, same-places}
-use Rattle.mending.proofs.CutOut.{burst-six}
+use Rattle.mending.proofs.CutOut.{burst-six, some-value}
 use Rattle.mending.proofs.Goodness.{made-good}
 
 pub burst-places : (e : List ℕ) → Burst 6 e → bitsOf 50 (value e) ≡ e
@@ -25,18 +25,15 @@ burst-left e b = ap remainder (sym (burst-places e b)) ∙ six-left (burst-six e
 -- two bursts that leave the same are the same
 pub bursts-differ : (d e : List ℕ) → Burst 6 d → Burst 6 e → remainder d ≡ remainder e → d ≡ e
 bursts-differ d e a b l =
-    let p = burst-six d a in
-    let q = burst-six e b in
     sym (burst-places d a)
-    ∙ ap (bitsOf 50)
-    (p .is ∙ same-places (p .behind) (p .rest) (q .behind) (q .rest) (p .small) (q .small) (p .inside) (q .inside) (p .filled) (q .filled) (sym (burst-left d a) ∙ l ∙ burst-left e b) ∙ sym (q .is))
-    ∙ burst-places e b
+    ∙ ap (bitsOf 50) (same-places (burst-six d a) (burst-six e b) (sym (burst-left d a) ∙ l ∙ burst-left e b)) ∙ burst-places e b
 
 -- and none leaves nothing
 pub burst-leaves : (e : List ℕ) → Burst 6 e → remainder e ≡ 0 → ⊥
 burst-leaves e b z =
     let q = burst-six e b in
-    omega (arith, q .some, up-zero (q .behind) (q .rest) (omega (arith, q .small)) (sym (burst-left e b) ∙ z))
+    let none : q .rest ≡ 0 = up-zero (q .behind) (q .rest) (omega (arith, q .small)) (sym (burst-left e b) ∙ z) in
+    omega (arith, some-value e (b .pattern .some), q .is ∙ ap (λ (r : ℕ). r * 2 ^ q .behind) none)
 
 module _ (s : List ℕ) (l : length s ≡ 50) (h : Bits s) where
   pub makes-left : (e : List ℕ) → Makes s e → remainder e ≡ remainder (inverted s)

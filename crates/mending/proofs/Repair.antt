@@ -13,8 +13,9 @@ use Rattle.detection.specs.Damage.{burst}
 use Rattle.detection.proofs.Damage.{changed-bits, changed-size, damage-refused}
 use Rattle.detection.proofs.Places.{only}
 use Rattle.detection.proofs.Refusal as refusal
+use Rattle.detection.specs.Slips.{IsRefused}
 use Rattle.mending.specs.Changes.{Burst, Makes, sixFrom}
-use Rattle.mending.specs.Laws.{BurstsDiffer, BurstsMended, SingleMended, NeighboursMended, TwoBurstsRefused}
+use Rattle.mending.specs.Laws.{BurstsDiffer, MendedBack, BurstsMended, SingleMended, NeighboursMended, TwoBurstsRefused}
 use Rattle.mending.specs.Mending.{Mends, bad, one}
 use Rattle.mending.specs.declared.Mended.the-variants.{Block}
 use Rattle.mending.proofs.CutOut.{first-of}
@@ -42,20 +43,28 @@ module _ (s e : List ℕ) (g : Good s) (b : Burst 6 e) where
   not-good : Good received → ⊥
   not-good w = burst-leaves e b (makes-left received size bits e makes ∙ good-inverted received w .1)
 
+  mended-back : MendedBack s e
+  mended-back =
+      let f = first-of e (b .pattern .bits) (b .pattern .some) in
+      record {
+        refused =
+            damage-refused s e g (b .pattern)
+            (burst (b .within .first) (λ k c. let i = b .within .among k c in record { from = i .from; to = omega (arith, i .to) }));
+        place = f .0;
+        first = f .1;
+        mends =
+            subst (Mends received (Block (f .0) (sixFrom (f .0) e))) changed-back
+            (bad size bits not-good (one e makes (λ d m. only-one received size bits d e m makes) (f .0) (f .1)));
+      }
+
+  -- a second burst would make the block good as the first does
+  refused-twice : (d : List ℕ) → Burst 6 d → (e ≡ d → ⊥) → IsRefused (xors received d)
+  refused-twice d a f =
+      refusal.refused (xors received d) (length-xors received d (size ∙ sym (a .pattern .size)) ∙ size) (bits-xors received d bits (a .pattern .bits))
+      (λ w. f (only-one received size bits e d makes (record { burst = a; good = w })))
+
 pub bursts-mended : BurstsMended
-bursts-mended s e g b =
-    let f = first-of e (b .pattern .bits) (b .pattern .some) in
-    record {
-      refused =
-          damage-refused s e g (b .pattern)
-          (burst (b .within .first) (λ k c. let i = b .within .among k c in record { from = i .from; to = omega (arith, i .to) }));
-      place = f .0;
-      first = f .1;
-      mends =
-          subst (Mends (xors s e) (Block (f .0) (sixFrom (f .0) e))) (changed-back s e g b)
-          (bad (size s e g b) (bits s e g b) (not-good s e g b)
-          (one e (makes s e g b) (λ d m. only-one (xors s e) (size s e g b) (bits s e g b) d e m (makes s e g b)) (f .0) (f .1)));
-    }
+bursts-mended = mended-back
 
 pub single-mended : SingleMended
 single-mended s e g p w =
@@ -66,10 +75,5 @@ pub neighbours-mended : NeighboursMended
 neighbours-mended s e a g p f =
     bursts-mended s e g (record { pattern = p; within = record { first = a; among = λ k c. let i = f k c in record { from = i .from; to = omega (arith, i .to) } } })
 
--- either burst would make the block good that both have changed
 pub two-bursts-refused : TwoBurstsRefused
-two-bursts-refused s d e g a b f =
-    let t : List ℕ = xors s d in
-    let same : length t ≡ length e = size s d g a ∙ sym (b .pattern .size) in
-    refusal.refused (xors t e) (length-xors t e same ∙ size s d g a) (bits-xors t e (bits s d g a) (b .pattern .bits))
-    (λ w. f (only-one t (size s d g a) (bits s d g a) d e (makes s d g a) (record { burst = b; good = w })))
+two-bursts-refused s d e g a b = refused-twice s d g a e b

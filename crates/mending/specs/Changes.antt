@@ -8,12 +8,12 @@ use Rattle.block.specs.Bits.{value, xors, zeros}
 use Rattle.block.specs.Block.{Good}
 use Rattle.detection.specs.Damage.{Pattern, Changed, Among}
 
--- all changes lie within n neighbouring places, of which the first is given; they may hang over the end
+-- all changes lie within n neighbouring places, of which the first is named; the last of these places may lie past the end
 pub record Within (n : ℕ) (e : List ℕ) : Type 0 where
   pub first : ℕ
   pub among : (k : ℕ) → Changed e k → Among first n k
 
--- a burst of up to n places
+-- a burst of up to n places: some change, and all within n neighbouring places
 pub record Burst (n : ℕ) (e : List ℕ) : Type 0 where
   pub pattern : Pattern e
   pub within : Within n e
@@ -23,7 +23,7 @@ pub record Makes (s e : List ℕ) : Type 0 where
   pub burst : Burst 6 e
   pub good : Good (xors s e)
 
--- k is the first changed place
+-- k is the first changed place, counted from 0
 pub record First (e : List ℕ) (k : ℕ) : Type 0 where
   pub changed : Changed e k
   pub least : (j : ℕ) → Changed e j → k ≤ j

@@ -10,7 +10,7 @@ use Rattle.mending.specs.Changes.{Burst}
 use Rattle.mending.specs.Mending.{Mends}
 use Rattle.mending.specs.declared.Mended.the-variants.{Block, Refused}
 
--- a good block and a burst of seven; what is sent and what is received
+-- a good block and a burst of seven; what is sent and what is received. That six places do not hold the burst follows from `BurstsMended`
 pub record Seven : Type 0 where
   pub sent : List ℕ
   pub good : Good sent

@@ -23,7 +23,8 @@ pub data MendsBad (s : List ℕ) : Mended → List ℕ → Type 0 where
   none : ((e : List ℕ) → Makes s e → ⊥) → MendsBad s (Refused NoSuchChange) s
   several : (d e : List ℕ) → Makes s d → Makes s e → (d ≡ e → ⊥) → MendsBad s (Refused SeveralChanges) s
 
--- what becomes of any bytes: those that cannot be packed are refused as packing refuses them, and a good block is handed back
+-- what becomes of any bytes: those that are not fifty proper bits are refused as packing refuses them, with 2 and then 1, and a good block
+-- is handed back, place and pattern 0
 pub data Mends (s : List ℕ) : Mended → List ℕ → Type 0 where
   refused : (why : Refusal) → packOf s ≡ packed.Refused why → Mends s (Refused why) s
   good : Good s → Mends s (Block 0 0) s

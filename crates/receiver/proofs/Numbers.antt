@@ -1,7 +1,7 @@
 -- The waiting bits are the lowest bits of a number: a bit that joins, the oldest that goes and the test of the places not in use
 -- are one step each on that number.
 -- Assumes nothing.
-use mathlib.Core.Path.{_≡_, refl, sym, ap, ap₂, _∙_}
+use mathlib.Core.Path.{_≡_, refl, sym, ap, _∙_}
 use mathlib.Core.Bool.{true, _&&_, and-eq-true-iff}
 use mathlib.Core.List.{List, [], _∷_, _++_, append-assoc, append-nil}
 use Prim.Native.Nat.{ℕ, zero, suc, _+_, _-_, _*_, _/_, _%_, _^_, _<_, _≤_}
@@ -11,11 +11,11 @@ use native.Mathlib.Omega.{arith}
 use borrow.Author.Tests.{ltb-true, lt-ltb, ne-eqb, eqb-true}
 use lib.Arith.{mod-mul}
 use lib.Dec.{eqb, ltb}
-use lib.ListN.{drop, set, length-replicate}
+use lib.ListN.{drop, set}
 use lib.Pow.{pow-pos, shr-lt}
 use lib.Seq.{set-at, drop-at}
 use Rattle.block.specs.Bits.{Bits, zeros, value, bitsOf}
-use Rattle.block.proofs.Strings.{bits-zeros, val-zeros, zeros-behind, length-bitsOf, val-bitsOf, bitsOf-join, bitsOf-first, bitsOf-val}
+use Rattle.block.proofs.Strings.{zeros-behind, length-bitsOf, val-bitsOf, bitsOf-join, bitsOf-first, bitsOf-up}
 use Rattle.receiver.specs.States.{bitsProper}
 
 -- the w lowest bits of n in the first places, and the others not in use
@@ -48,16 +48,10 @@ passes n =
 
 -- ---- the places not in use, below the bits
 
-none-zeros : (k : ℕ) → bitsOf k 0 ≡ zeros k
-none-zeros k =
-    let z : value (zeros k) ≡ 0 = val-zeros k 0 ∙ omega arith in
-    rw z at (bitsOf-val k (zeros k) (bits-zeros k) (length-replicate k 0))
-
 pub raised : (w n : ℕ) → w ≤ 50 → bitsOf 50 (n * 2 ^ (50 - w)) ≡ placesOf w n
 raised w n h =
     let d : 50 ≡ w + (50 - w) = omega arith in
-    let e : n * 2 ^ (50 - w) ≡ n * 2 ^ (50 - w) + 0 = omega arith in
-    ap₂ bitsOf d e ∙ bitsOf-join w (50 - w) n 0 (pow-pos (50 - w)) ∙ ap (λ (l : List ℕ). bitsOf w n ++ l) (none-zeros (50 - w))
+    ap (λ (k : ℕ). bitsOf k (n * 2 ^ (50 - w))) d ∙ bitsOf-up w (50 - w) n
 
 pub raised-value : (w n : ℕ) → n < 2 ^ w → value (placesOf w n) ≡ n * 2 ^ (50 - w)
 raised-value w n h = zeros-behind (bitsOf w n) (50 - w) ∙ ap (λ (v : ℕ). v * 2 ^ (50 - w)) (val-bitsOf w n h)

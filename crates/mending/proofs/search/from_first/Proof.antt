@@ -16,9 +16,6 @@ Inv-loop rest behind pattern₀ place₀ pattern place =
 abbrev μ-loop : tie.MeasureT-loop
 μ-loop rest behind pattern₀ place₀ pattern place = 49 - place
 
-sub-place : tie.Need-sub-place Inv-loop μ-loop
-sub-place c = omega arith
-
 -- behind the last of the six places stand five fewer than behind the first
 begins : (rest behind : ℕ) → behind ≤ 44 → rest * 2 ^ (49 - (44 - behind)) ≡ rest * 2 ^ behind * 32
 begins rest behind h =
@@ -41,12 +38,6 @@ moved p place h =
     let e : 49 - place ≡ suc (49 - (place + 1)) = omega arith in
     rw (e, pow-suc) (omega arith)
 
-mul-pattern : tie.Need-mul-pattern Inv-loop μ-loop
-mul-pattern c = omega arith
-
-add-place : tie.Need-add-place Inv-loop μ-loop
-add-place c = omega arith
-
 loop-less : tie.Need-loop-less Inv-loop μ-loop
 loop-less c =
     let at = c .before .loop in
@@ -66,13 +57,4 @@ returns c = let at = c .before .loop in record { is = at .inv .0; inside = at .i
 pub from-first-spec : {M : Type 1} → statement M
 from-first-spec =
     tie.close
-    (tie.spec
-    Inv-loop
-    μ-loop
-    sub-place
-    loop-holds
-    mul-pattern
-    add-place
-    loop-less
-    loop-again
-    returns)
+    (tie.spec Inv-loop μ-loop (λ c. omega arith) loop-holds (λ c. omega arith) (λ c. omega arith) loop-less loop-again returns)

@@ -28,15 +28,6 @@ returns c =
     let i = c .before .before .loop .inv in
     record { forth = i .0; small = i .1; inside = i .2; filled = i .3; earlier = i .4; last = λ h. absurd (omega arith) }
 
-turn-back-requires : tie.Need-turn-back-requires Inv-loop μ-loop
-turn-back-requires c κs = omega arith
-
-add-behind : tie.Need-add-behind Inv-loop μ-loop
-add-behind c = omega arith
-
-loop-less : tie.Need-loop-less Inv-loop μ-loop
-loop-less c = omega arith
-
 loop-again : tie.Need-loop-again Inv-loop μ-loop
 loop-again c =
     let at = c .before .before .before .loop in
@@ -58,4 +49,4 @@ returns-2 c =
 pub turned-back-spec : {M : Type 1} → statement M
 turned-back-spec =
     tie.close
-    (tie.spec Inv-loop μ-loop loop-holds returns turn-back-requires add-behind loop-less loop-again returns-2)
+    (tie.spec Inv-loop μ-loop loop-holds returns (λ c κs. omega arith) (λ c. omega arith) (λ c. omega arith) loop-again returns-2)
