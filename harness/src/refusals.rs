@@ -19,3 +19,6 @@ pub const WRONG_SIZE: u8 = 19;
 pub const WRONG_FIXED_BITS: u8 = 20;
 pub const NO_CODEWORD: u8 = 21;
 pub const WRONG_CRC: u8 = 22;
+pub const WRONG_TRAILER: u8 = 23;
+pub const NOT_RISING: u8 = 24;
+pub const TOO_MANY_BLOCKS: u8 = 30;

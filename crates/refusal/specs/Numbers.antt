@@ -1,8 +1,8 @@
--- The numbers of the refusals (01, "Numbers given when something is refused"; 02, Nos. 6, 8, 9 and 10).
+-- The numbers of the refusals (01, "Numbers given when something is refused"; 02, Nos. 6, 8, 9, 10 and 12).
 -- Assumes nothing.
 use Prim.Native.Nat.{ℕ}
 use Rattle.refusal.specs.declared.Refusal.{Refusal}
-use Rattle.refusal.specs.declared.Refusal.the-variants.{NotABit, WrongLength, WrongPrefix, WrongCheckWord, NotARecord, OutOfRange, NotInYear, WrongYear, RunTooLong, Improper, NumberTooWide, NoSuchChange, SeveralChanges, StringTooLong, NotARemainder, WrongSize, WrongFixedBits, NoCodeword, WrongCrc}
+use Rattle.refusal.specs.declared.Refusal.the-variants.{NotABit, WrongLength, WrongPrefix, WrongCheckWord, NotARecord, OutOfRange, NotInYear, WrongYear, RunTooLong, Improper, NumberTooWide, NoSuchChange, SeveralChanges, StringTooLong, NotARemainder, WrongSize, WrongFixedBits, NoCodeword, WrongCrc, WrongTrailer, NotRising, TooManyBlocks}
 
 -- each row of the table, in its order, then those of the requests; 0 is left for "not refused"
 abbrev pub numberOf : Refusal → ℕ
@@ -25,3 +25,6 @@ numberOf WrongSize = 19
 numberOf WrongFixedBits = 20
 numberOf NoCodeword = 21
 numberOf WrongCrc = 22
+numberOf WrongTrailer = 23
+numberOf NotRising = 24
+numberOf TooManyBlocks = 30

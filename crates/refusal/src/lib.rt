@@ -22,7 +22,7 @@ pub enum Refusal {
     WrongYear,
     // A run is longer than 65,536, or takes the bits that a watch was fed past 2^64 - 1.
     RunTooLong,
-    // The state or the watch is not proper.
+    // The state, the watch or the report is not proper.
     Improper,
     // A block's number has a bit above place 49.
     NumberTooWide,
@@ -42,6 +42,12 @@ pub enum Refusal {
     NoCodeword,
     // The CRC does not agree with the mended bytes.
     WrongCrc,
+    // A journal's trailer does not fit.
+    WrongTrailer,
+    // A wanted entry's bit number is not above that of the one before.
+    NotRising,
+    // A report would have more than 2^32 blocks.
+    TooManyBlocks,
 }
 
 // The number that the documents give the refusal.
@@ -68,5 +74,8 @@ pub fn number(refusal: Refusal) -> u8
         Refusal::WrongFixedBits => 20,
         Refusal::NoCodeword => 21,
         Refusal::WrongCrc => 22,
+        Refusal::WrongTrailer => 23,
+        Refusal::NotRising => 24,
+        Refusal::TooManyBlocks => 30,
     }
 }
