@@ -14,3 +14,4 @@ pub mod Packing
 pub mod Stream
 pub mod Taken
 pub mod Determined
+pub mod Storing

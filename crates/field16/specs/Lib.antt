@@ -1,3 +1,2 @@
 pub mod Field
-pub mod Digits
 pub mod Words

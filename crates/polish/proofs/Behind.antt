@@ -8,8 +8,8 @@ use native.Mathlib.Omega.{arith}
 use lib.ListN.{take}
 use lib.Seq.{take-at}
 use Rattle.refusal.specs.declared.Refusal.the-variants.{NoCodeword, WrongCrc}
-use Rattle.field16.specs.Digits.{digits, number}
-use Rattle.field16.proofs.Digits.{length-digits, digits-low, digits-append, number-digits}
+use Rattle.big_endian.specs.Digits.{digits, number}
+use Rattle.big_endian.proofs.Digits.{length-digits, digits-low, digits-append, number-digits}
 use Rattle.symbols.specs.declared.Mended.{Mended}
 use Rattle.symbols.specs.declared.Mended.the-variants.{Nearest, Farther}
 use Rattle.symbols.specs.Mending.{Mends}

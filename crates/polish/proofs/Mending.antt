@@ -6,7 +6,7 @@ use mathlib.Core.Path.{_≡_, refl, sym, ap, _∙_, subst}
 use Prim.Native.Nat.{ℕ, _+_, _*_, _%_, _^_}
 use native.Mathlib.Omega.{arith}
 use lib.ListN.{take}
-use Rattle.field16.specs.Digits.{number}
+use Rattle.big_endian.specs.Digits.{number}
 use Rattle.symbols.proofs.Unique.{differing-self}
 use Rattle.polish.specs.Frame.{bodyOf, timeIn, crcOfBody, bodyIn, checksIn, crcIn, wordOf, mendedTo}
 use Rattle.polish.specs.Read.{Behind, right, Reads, behind}

@@ -12,8 +12,8 @@ use lib.ListN.{take}
 use lib.Pow.{pow-pos}
 use Rattle.block.proofs.Xor.{xor-assoc}
 use Rattle.block.proofs.Below.{at-below}
-use Rattle.field16.specs.Digits.{digits, number}
-use Rattle.field16.proofs.Digits.{Below, digits-append}
+use Rattle.big_endian.specs.Digits.{digits, number}
+use Rattle.big_endian.proofs.Digits.{Below, digits-append}
 use Rattle.symbols.specs.Code.{Near}
 use Rattle.symbols.proofs.Unique.{unique}
 use Rattle.polish.specs.Crc.{crcShifts, crcFrom}

@@ -6,9 +6,9 @@ use Prim.Native.Nat.{ℕ, zero, suc, _+_, _*_, _/_, _%_, _^_, _≤_, _<_}
 use native.Mathlib.Omega.{arith}
 use lib.ListN.{length, getD, take, drop}
 use lib.Seq.{drop-cons}
-use Rattle.field16.specs.Digits.{digits, number}
+use Rattle.big_endian.specs.Digits.{digits, number}
 use Rattle.field16.proofs.Entries.{elements}
-use Rattle.field16.proofs.Digits.{number-digits}
+use Rattle.big_endian.proofs.Digits.{number-digits}
 use Rattle.symbols.specs.Code.{checksOf}
 use Rattle.polish.specs.Frame.{symbolsIn, crcOfBody, framed, bodyIn, checksIn}
 

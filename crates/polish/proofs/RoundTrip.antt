@@ -10,8 +10,9 @@ use lib.Bits.{bitXor, xor-lt, xor-shr}
 use lib.Dec.{ltb}
 use lib.ListN.{length, getD}
 use lib.Seq.{take-at}
-use Rattle.field16.specs.Digits.{digits, number}
-use Rattle.field16.proofs.Digits.{length-digits, symbols-digits, number-digits}
+use Rattle.big_endian.specs.Digits.{digits, number}
+use Rattle.big_endian.proofs.Digits.{length-digits, number-digits}
+use Rattle.field16.proofs.Digits.{symbols-digits}
 use Rattle.field16.proofs.Words.{xor-twice}
 use Rattle.symbols.specs.Code.{Codeword, checksOf, Checked}
 use Rattle.symbols.proofs.Linear.{checked-number}

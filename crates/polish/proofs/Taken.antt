@@ -8,8 +8,9 @@ use native.Mathlib.Omega.{arith}
 use lib.ListN.{length, take}
 use lib.Seq.{take-at, length-take-le}
 use Rattle.field16.specs.Words.{Symbols}
-use Rattle.field16.specs.Digits.{digits, number}
-use Rattle.field16.proofs.Digits.{Below, below-symbols, length-digits, digits-under, digits-number, number-lt}
+use Rattle.big_endian.specs.Digits.{digits, number}
+use Rattle.big_endian.proofs.Digits.{Below, length-digits, digits-under, digits-number, number-lt}
+use Rattle.field16.proofs.Digits.{below-symbols}
 use Rattle.symbols.specs.Code.{Codeword}
 use Rattle.symbols.proofs.Linear.{same-nine}
 use Rattle.polish.specs.Frame.{bodyOf, timeIn, symbolsIn, framed, bodyIn, checksIn, wordOf, mendedTo}

@@ -5,7 +5,7 @@ use mathlib.Core.Path.{_≡_}
 use Prim.Native.Nat.{ℕ, _+_, _*_, _/_, _%_, _^_}
 use lib.Bits.{bitXor}
 use lib.ListN.{getD, take, drop}
-use Rattle.field16.specs.Digits.{digits, number}
+use Rattle.big_endian.specs.Digits.{digits, number}
 use Rattle.symbols.specs.Code.{checksOf}
 use Rattle.polish.specs.Crc.{crcOf}
 use Rattle.polish.specs.declared.Time.{Time}

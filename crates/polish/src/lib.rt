@@ -5,10 +5,10 @@ ghost use mathlib.Core.Bool.{true};
 ghost use mathlib.Core.Path.{_≡_};
 ghost use Prim.Native.Nat.{_*_, _<_, _^_};
 ghost use lib.ListN.{length};
-ghost use Rattle.field16.specs.Digits.{number};
 ghost use Rattle.polish.specs.Frame.{bodyOf, timeIn, framed};
 ghost use Rattle.polish.specs.Read.{Behind, Reads};
 ghost use Rattle.polish.specs.Write.{fitting, writeOf, writtenOf};
+use big_endian::number_of;
 use crc::crc;
 use refusal::Refusal;
 use symbols::Mended;
@@ -74,20 +74,6 @@ fn body_of(time: Time) -> u64
         + time.sk0 * 2
         + time.sk1;
     (0xA0_0000_0000 + time.periods as u64 * 0x80 + flags as u64) ^ KEY
-}
-
-// The number that up to seven bytes write, the first highest.
-fn number_of(bytes: &[u8]) -> u64
-    requires { ⌜ length (now bytes) < 8 ⌝ }
-    ensures { λ r. ⌜ (r < 2 ^ (8 * length (now (bytes .entry)))) × (r ≡ number 8 (now (bytes .entry))) ⌝ }
-{
-    let mut total: u64 = 0;
-    let mut i: usize = 0;
-    while i < bytes.len() {
-        total = total * 256 + bytes[i] as u64;
-        i += 1;
-    }
-    total
 }
 
 // What is told behind the right fixed bits.

@@ -1,7 +1,7 @@
 // The power sums of a word, its values at a^1 to a^6, and what is left of them when a place is taken away. A place is told by its power of a, so by
 // an element: wherever a symbol stands alone, each power sum is the place times the one before.
 ghost use mathlib.Core.Path.{_≡_};
-ghost use Rattle.field16.specs.Digits.{digits};
+ghost use Rattle.big_endian.specs.Digits.{digits};
 ghost use Rattle.field16.specs.Words.{at};
 ghost use Rattle.power_sums.specs.Sums.{sixSums, takeAway, goesOn, thirdOf, apart, fits};
 use field16::over;

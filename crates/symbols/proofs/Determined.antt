@@ -4,7 +4,7 @@ use mathlib.Core.List.{List}
 use mathlib.Core.Path.{_≡_, refl, sym, ap, _∙_}
 use Prim.Native.Nat.{ℕ}
 use Rattle.refusal.proofs.Determined.{Determined}
-use Rattle.field16.specs.Digits.{digits}
+use Rattle.big_endian.specs.Digits.{digits}
 use Rattle.field16.proofs.Digits.{same-number}
 use Rattle.symbols.specs.Mending.{Mends}
 use Rattle.symbols.specs.declared.Mended.{Mended}

@@ -17,8 +17,9 @@ use Rattle.block.proofs.Xor.{on-bit}
 use Rattle.block.proofs.Below.{at-below}
 use Rattle.block.proofs.Strings.{length-xors}
 use Rattle.field16.specs.Words.{Symbols, aTo, weight}
-use Rattle.field16.specs.Digits.{digits, number}
-use Rattle.field16.proofs.Digits.{Below, below-symbols, length-digits, symbols-digits, digits-low, number-lt, digits-number, digits-xor}
+use Rattle.big_endian.specs.Digits.{digits, number}
+use Rattle.big_endian.proofs.Digits.{Below, length-digits, digits-low, number-lt, digits-number, digits-xor}
+use Rattle.field16.proofs.Digits.{below-symbols, symbols-digits}
 use Rattle.field16.proofs.Distance.{weight-nil, weight-most}
 use Rattle.field16.proofs.Words.{symbols-xors, at-xors}
 use Rattle.symbols.specs.Code.{Codeword, differing, encodeFrom, checksOf, Checked}

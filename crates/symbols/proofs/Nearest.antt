@@ -12,9 +12,10 @@ use Rattle.block.specs.Bits.{xors}
 use Rattle.block.proofs.Xor.{xor-eq}
 use Rattle.block.proofs.Strings.{length-xors, xors-cancel}
 use Rattle.field16.specs.Words.{Symbols, aTo, at, weight}
-use Rattle.field16.specs.Digits.{digits}
+use Rattle.big_endian.specs.Digits.{digits}
 use Rattle.field16.specs.Field.{times, power}
-use Rattle.field16.proofs.Digits.{length-digits, symbols-digits, digits-low, digits-append, digits-xor}
+use Rattle.big_endian.proofs.Digits.{length-digits, digits-low, digits-append, digits-xor}
+use Rattle.field16.proofs.Digits.{symbols-digits}
 use Rattle.field16.proofs.Words.{at-append, symbols-xors, at-xors}
 use Rattle.power_sums.specs.Sums.{sixSums}
 use Rattle.power_sums.proofs.Lists.{sums-same, six-at}

@@ -8,7 +8,7 @@ use lib.Bits.{bitXor}
 use lib.Dec.{eqb}
 use lib.ListN.{length, drop}
 use Rattle.block.specs.Bits.{xors, zeros}
-use Rattle.field16.specs.Digits.{digits}
+use Rattle.big_endian.specs.Digits.{digits}
 use Rattle.field16.specs.Field.{times, power}
 use Rattle.field16.specs.Words.{aTo, Symbols, at}
 

@@ -2,7 +2,7 @@
 -- Assumes nothing.
 use mathlib.Core.List.{List}
 use Prim.Native.Nat.{ℕ, _<_, _^_}
-use Rattle.field16.specs.Digits.{digits}
+use Rattle.big_endian.specs.Digits.{digits}
 use Rattle.symbols.specs.Code.{Near}
 use Rattle.symbols.specs.declared.Mended.{Mended}
 use Rattle.symbols.specs.declared.Mended.the-variants.{Nearest, Farther}

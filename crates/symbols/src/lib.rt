@@ -2,7 +2,7 @@
 // A word is one number, four bits to each symbol, the first highest.
 mod code;
 
-ghost use Rattle.field16.specs.Digits.{digits};
+ghost use Rattle.big_endian.specs.Digits.{digits};
 ghost use Rattle.symbols.specs.Code.{Checked};
 ghost use Rattle.symbols.specs.Mending.{Mends};
 use code::asked;

@@ -6,8 +6,9 @@ use mathlib.Core.Path.{_≡_, refl, sym, ap, _∙_}
 use Prim.Native.Nat.{ℕ}
 use native.Mathlib.Omega.{arith}
 use Rattle.refusal.proofs.Determined.{Determined}
-use Rattle.field16.specs.Digits.{digits}
-use Rattle.field16.proofs.Digits.{length-digits, symbols-digits, same-number}
+use Rattle.big_endian.specs.Digits.{digits}
+use Rattle.big_endian.proofs.Digits.{length-digits}
+use Rattle.field16.proofs.Digits.{symbols-digits, same-number}
 use Rattle.field16.proofs.Distance.{weight-xors, same-word}
 use Rattle.power_sums.specs.Sums.{sixSums}
 use Rattle.power_sums.proofs.Lists.{six-at}

@@ -8,9 +8,9 @@ use lib.Bits.{bitXor, xor-self, xor-zero-l, xor-zero-r}
 use lib.Pow.{pow-mono, pow-pos, shl-lt}
 use Rattle.block.specs.Bits.{xors}
 use Rattle.field16.specs.Words.{aTo, at, weight}
-use Rattle.field16.specs.Digits.{digits}
+use Rattle.big_endian.specs.Digits.{digits}
 use Rattle.field16.specs.Field.{times, power}
-use Rattle.field16.proofs.Digits.{length-digits, digits-append, digits-xor}
+use Rattle.big_endian.proofs.Digits.{length-digits, digits-append, digits-xor}
 use Rattle.field16.proofs.Distance.{weight-nil, weight-none, weight-one, at-weightless, weight-most}
 use Rattle.field16.proofs.Elements.{times-comm, times-one, zero-times}
 use Rattle.field16.proofs.Words.{at-append, power-times}

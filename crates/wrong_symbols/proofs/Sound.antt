@@ -12,9 +12,9 @@ use lib.ListN.{length, getD}
 use Rattle.block.specs.Bits.{xors, zeros}
 use Rattle.block.proofs.Strings.{length-xors}
 use Rattle.field16.specs.Words.{Symbols, aTo, at, weight}
-use Rattle.field16.specs.Digits.{digits}
+use Rattle.big_endian.specs.Digits.{digits}
 use Rattle.field16.specs.Field.{times, power}
-use Rattle.field16.proofs.Digits.{length-digits, digits-xor}
+use Rattle.big_endian.proofs.Digits.{length-digits, digits-xor}
 use Rattle.field16.proofs.Words.{away, at-xors, xor-twice}
 use Rattle.field16.proofs.Distance.{weight-xors}
 use Rattle.power_sums.specs.Sums.{sumsFrom, sixSums, takeAway, goesOn, thirdOf, apart, fits}

@@ -4,7 +4,7 @@ use mathlib.Core.List.{List}
 use mathlib.Core.Path.{_≡_}
 use Prim.Native.Nat.{ℕ, _≤_, _<_, _^_}
 use lib.ListN.{length}
-use Rattle.field16.specs.Digits.{digits}
+use Rattle.big_endian.specs.Digits.{digits}
 use Rattle.field16.specs.Words.{weight}
 use Rattle.power_sums.specs.Sums.{sixSums}
 use Rattle.wrong_symbols.specs.declared.Explained.{Explained}

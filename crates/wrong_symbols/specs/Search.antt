@@ -8,7 +8,7 @@ use lib.Bits.{bitXor}
 use lib.Dec.{eqb}
 use lib.ListN.{getD}
 use Rattle.field16.specs.Words.{aTo, at, weight}
-use Rattle.field16.specs.Digits.{digits}
+use Rattle.big_endian.specs.Digits.{digits}
 use Rattle.field16.specs.Field.{times, power, inverseOf}
 use Rattle.power_sums.specs.Sums.{takeAway, fits}
 use Rattle.wrong_symbols.specs.declared.search.Minors.{Minors}

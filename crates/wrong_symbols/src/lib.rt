@@ -2,7 +2,7 @@
 mod mending;
 mod search;
 
-ghost use Rattle.field16.specs.Digits.{digits};
+ghost use Rattle.big_endian.specs.Digits.{digits};
 ghost use Rattle.wrong_symbols.specs.Explained.{Explains};
 use mending::mistakes;
 use power_sums::sums;

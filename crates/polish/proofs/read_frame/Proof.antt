@@ -3,9 +3,12 @@
 use borrow.Author.Needs.{needs}
 use mathlib.Core.List.{List}
 use mathlib.Core.Path.{_≡_}
-use Prim.Native.Nat.{ℕ, _+_, _≤_}
+use Prim.Native.Nat.{ℕ, _^_, _<_}
 use native.Mathlib.Omega.{arith}
-use lib.ListN.{length, take, drop, length-take, length-drop}
+use lib.ListN.{length, take, drop}
+use Rattle.big_endian.specs.Bytes.{Told}
+use Rattle.big_endian.specs.Digits.{number}
+use Rattle.big_endian.proofs.Bytes.{told-part}
 use Rattle.polish.specs.Frame.{bodyIn, checksIn}
 use Rattle.polish.specs.Read.{size, fixed, behind}
 use Rattle.polish.proofs.read_frame.Statement.{statement}
@@ -65,24 +68,29 @@ number-of-requires-2 c κs = search needs
 shared-slice-read-read-behind : tie.Need-shared-slice-read-read-behind
 shared-slice-read-read-behind c = search needs
 
--- a part is as long as it says
-part-length : (s : List ℕ) (k i : ℕ) → k + i ≤ length s → length (take k (drop i s)) ≡ k
-part-length s k i h = simp (length-take, length-drop) (omega arith)
+-- the two numbers that are behind the fixed bits
+module _ (frame : List ℕ) (size : length frame ≡ 12) where
+  body-told : {n : ℕ} → Told (take 5 (drop 3 frame)) n → (n ≡ number 8 (take 5 (drop 3 frame))) × (n < 2 ^ 40)
+  body-told told = told-part frame 5 3 (omega arith) told (omega arith)
+
+  checks-told : {n : ℕ} → Told (take 3 (drop 8 frame)) n → (n ≡ number 8 (take 3 (drop 8 frame))) × (n < 2 ^ 24)
+  checks-told told = told-part frame 3 8 (omega arith) told (omega arith)
 
 read-behind-requires : tie.Need-read-behind-requires
 read-behind-requires c κs =
     let checks = c .before in
     let body = checks .before .before in
     let frame = body .before .before .before .before .before .before .before .before .before .before .before .before .args .frame .now in
-    (rw (part-length frame 5 3 (omega arith)) at (body .number-of .ensures .0), rw (part-length frame 3 8 (omega arith)) at (checks .number-of2 .ensures .0))
+    (body-told frame (omega arith) (body .number-of .ensures) .1, checks-told frame (omega arith) (checks .number-of2 .ensures) .1)
 
 returns-6 : tie.Need-returns-6
 unfolding bodyIn checksIn
 returns-6 c =
     let checks = c .before .before in
     let body = checks .before .before in
+    let frame = body .before .before .before .before .before .before .before .before .before .before .before .before .args .frame .now in
     behind (omega arith) (record { first = omega arith; second = omega arith; third = omega arith; fourth = omega arith }) {read = c .read-behind .result}
-    (rw (← body .number-of .ensures .1, ← checks .number-of2 .ensures .1) (c .read-behind .ensures))
+    (rw (← body-told frame (omega arith) (body .number-of .ensures) .0, ← checks-told frame (omega arith) (checks .number-of2 .ensures) .0) (c .read-behind .ensures))
 
 pub read-frame-spec : {M : Type 1} → statement M
 read-frame-spec =

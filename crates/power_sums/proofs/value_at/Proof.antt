@@ -9,9 +9,9 @@ use lib.Bits.{bitXor, xor-lt, xor-zero-r}
 use lib.ListN.{length}
 use Rattle.block.proofs.Xor.{xor-assoc}
 use Rattle.field16.specs.Words.{at}
-use Rattle.field16.specs.Digits.{digits}
+use Rattle.big_endian.specs.Digits.{digits}
 use Rattle.field16.specs.Field.{times, power}
-use Rattle.field16.proofs.Digits.{digits-next, length-digits}
+use Rattle.big_endian.proofs.Digits.{digits-next, length-digits}
 use Rattle.field16.proofs.Elements.{times-lt, times-comm, times-assoc, times-one, zero-times, xor-times}
 use Rattle.power_sums.proofs.value_at.Statement.{statement}
 use Rattle.power_sums.proofs.value_at.Tie as tie

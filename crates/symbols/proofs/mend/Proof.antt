@@ -5,7 +5,7 @@ use mathlib.Core.Path.{subst}
 use Prim.Native.Nat.{_%_, _^_}
 use native.Mathlib.Omega.{arith}
 use lib.Bits.{bitXor, xor-lt}
-use Rattle.field16.specs.Digits.{digits}
+use Rattle.big_endian.specs.Digits.{digits}
 use Rattle.wrong_symbols.specs.Explained.{Explains}
 use Rattle.symbols.proofs.Nearest.{whole-near, mended-near, none-near}
 use Rattle.symbols.proofs.mend.Statement.{statement}

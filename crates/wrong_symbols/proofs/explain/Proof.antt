@@ -4,7 +4,7 @@ use borrow.Author.Needs.{needs}
 use mathlib.Core.List.{List}
 use mathlib.Core.Path.{sym, _∙_, subst}
 use Prim.Native.Nat.{ℕ}
-use Rattle.field16.specs.Digits.{digits}
+use Rattle.big_endian.specs.Digits.{digits}
 use Rattle.field16.proofs.Distance.{positive}
 use Rattle.power_sums.specs.Sums.{takeAway}
 use Rattle.power_sums.proofs.Lists.{symbols-sums}

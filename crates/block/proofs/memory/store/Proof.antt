@@ -1,12 +1,13 @@
 -- `store` meets its contract. The loop's invariant: the bits still to be stored, before those that are, are all the bits.
 -- Assumes nothing.
-use mathlib.Core.List.{List, [], _∷_, _++_, append-assoc, append-nil}
-use mathlib.Core.Path.{_≡_, refl, sym, ap, ap₂, _∙_}
-use Prim.Native.Nat.{ℕ, zero, suc, _≤_, _<_, _-_, _/_, _%_}
+use mathlib.Core.List.{List, _++_, append-nil}
+use mathlib.Core.Path.{_≡_, refl, ap, _∙_}
+use Prim.Native.Nat.{ℕ, _≤_, _-_, _%_}
 use native.Mathlib.Omega.{arith}
-use lib.ListN.{length, set, drop, length-set}
-use lib.Seq.{drop-cons, drop-length, drop-set-lt, getD-set-same}
+use lib.ListN.{length, drop, length-set}
+use lib.Seq.{drop-length}
 use Rattle.block.specs.Bits.{bitsOf}
+use Rattle.block.proofs.Storing.{stores-one, stored-all}
 use Rattle.block.proofs.memory.store.Statement.{statement}
 use Rattle.block.proofs.memory.store.Tie as tie
 
@@ -35,38 +36,24 @@ slice-write-out c = omega arith
 loop-less : tie.Need-loop-less Inv-loop μ-loop
 loop-less c = omega arith
 
--- one bit goes from those to be stored to those that are
-again : (l : List ℕ) (k n : ℕ) → 0 < k → k ≤ length l → bitsOf (k - 1) (n / 2) ++ drop (k - 1) (set l (k - 1) (n % 2)) ≡ bitsOf k n ++ drop k l
-unfolding bitsOf
-again l zero n h b = absurd (omega arith)
-again l (suc k) n h b =
-    let d : suc k - 1 ≡ k = omega arith in
-    let m : List ℕ = set l k (n % 2) in
-    rw d (ap (λ (t : List ℕ). bitsOf k (n / 2) ++ t)
-    (drop-cons m k 0 (omega (arith, length-set l k (n % 2))) ∙ ap₂ (λ (x : ℕ) (t : List ℕ). x ∷ t) (getD-set-same l k (n % 2) 0 (omega arith)) (drop-set-lt (suc k) l k (n % 2) (omega arith)))
-    ∙ sym (append-assoc (bitsOf k (n / 2)) (n % 2 ∷ []) (drop (suc k) l)))
-
 loop-again : tie.Need-loop-again Inv-loop μ-loop
+unfolding bitsOf
 loop-again c =
     let lp = c .before .loop in (
       omega arith,
       length-set (lp .out) (lp .k - 1) (lp .left % 2) ∙ lp .inv .1,
-      again (lp .out) (lp .k) (lp .left) (c .loop-test .taken) (omega arith) ∙ lp .inv .2,
+      stores-one 2 bitsOf (λ n. refl) (λ k n. refl) (lp .out) (lp .k) (lp .left) (c .loop-test .taken) (omega arith) ∙ lp .inv .2,
     )
 
 same-length : tie.Need-same-length Inv-loop μ-loop
 same-length c = c .before .loop .inv .1
 
-done : (l r : List ℕ) (k n : ℕ) → k ≤ 0 → bitsOf k n ++ drop k l ≡ r → l ≡ r
-unfolding bitsOf
-done l r zero n h e = e
-done l r (suc k) n h e = absurd (omega arith)
-
 returns : tie.Need-returns Inv-loop μ-loop
+unfolding bitsOf
 returns c =
     let lp = c .before .loop in
     let a = c .before .before .args in
-    done (lp .out) (bitsOf (length (a .out .now)) (a .number)) (lp .k) (lp .left) (omega arith) (lp .inv .2)
+    stored-all 2 bitsOf (λ n. refl) (λ k n. refl) (lp .out) (bitsOf (length (a .out .now)) (a .number)) (lp .k) (lp .left) (omega arith) (lp .inv .2)
 
 pub store-spec : {M : Type 1} → statement M
 store-spec =
