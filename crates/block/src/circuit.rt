@@ -7,23 +7,26 @@ ghost use Rattle.block.specs.Division.{reduce, stepBit, remainderFrom, r
 // x^13+x^12+x^11+x^10+x^7+x^6+x^5+x^4+x^2+1, a digit for each power: below x^13, a 1 is a wire from the top back into that place.
 pub const GENERATOR: u64 = 0b11_1100_1111_0101;
 
-// A 1 that has left the top place is fed back through the wires. Behind the register may stand bits that are not let in yet.
-fn feed_back(moved: u64, behind: u32) -> u64
-    requires { ⌜ behind ≤ 50 ⌝ }
-    ensures { λ r. ⌜ r ≡ reduce (moved / 2 ^ behind) * 2 ^ behind + moved % 2 ^ behind ⌝ }
-{
-    if moved < 0x2000u64 << behind {
-        moved
-    } else {
-        moved ^ (GENERATOR << behind)
-    }
-}
-
-// One turn: every place moves up, the bit is let in below, and what left the top place is fed back.
+// One turn: every place moves up, the bit is let in below, and a 1 that has left the top place is fed back through the wires.
 pub fn turn(register: u32, bit: u8) -> u64
     ensures { λ r. ⌜ r ≡ stepBit register bit ⌝ }
 {
-    feed_back((register as u64) * 2 + (bit as u64), 0)
+    let moved = (register as u64) * 2 + (bit as u64);
+    if moved < 0x2000 {
+        moved
+    } else {
+        moved ^ GENERATOR
+    }
+}
+
+// What is fed back where bits that are not let in yet stand behind the register. To take the generator off makes the number smaller
+// where a 1 has left the top place, and larger elsewhere; asked so, the processor does not have to guess.
+fn feed_back(moved: u64, behind: u32) -> u64
+    requires { ⌜ (behind ≤ 50) × (moved / 2 ^ behind < 16384) ⌝ }
+    ensures { λ r. ⌜ r ≡ reduce (moved / 2 ^ behind) * 2 ^ behind + moved % 2 ^ behind ⌝ }
+{
+    let fed = moved ^ (GENERATOR << behind);
+    if fed < moved { fed } else { moved }
 }
 
 // A turn for each of a number's lowest bits, as many as there are places, most significant first. What stands above them is in

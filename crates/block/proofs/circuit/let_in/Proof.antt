@@ -5,7 +5,7 @@ use Prim.Native.Nat.{ℕ, zero, suc, _≤_, _<_, _/_, _^_}
 use native.Mathlib.Omega.{arith}
 use Rattle.block.specs.Bits.{bitsOf}
 use Rattle.block.specs.Division.{remainderFrom}
-use Rattle.block.proofs.Along.{along}
+use Rattle.block.proofs.Along.{along, moved-lt}
 use Rattle.block.proofs.circuit.let_in.Statement.{statement}
 use Rattle.block.proofs.circuit.let_in.Tie as tie
 
@@ -24,7 +24,9 @@ sub-behind : tie.Need-sub-behind Inv-loop μ-loop
 sub-behind c = omega arith
 
 feed-back-requires : tie.Need-feed-back-requires Inv-loop μ-loop
-feed-back-requires c κs = omega (arith, c .before .loop .inv .0, c .before .before .pre .1)
+feed-back-requires c κs =
+    let lp = c .before .loop in
+    (omega (arith, lp .inv .0, c .before .before .pre .1), moved-lt (lp .behind) (lp .rest) (c .loop-test .taken) (lp .inv .1))
 
 loop-less : tie.Need-loop-less Inv-loop μ-loop
 loop-less c = omega arith
