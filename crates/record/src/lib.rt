@@ -114,7 +114,7 @@ fn no_record(edition: Edition, code: u8, word: u32) -> Refusal
 }
 
 // In 1984 a set first bit marks a filler, in 1982 six zeros behind the code.
-fn is_filler(edition: Edition, word: u32) -> bool
+pub fn is_filler(edition: Edition, word: u32) -> bool
     ensures { λ r. ⌜ r ≡ isFiller edition word ⌝ }
 {
     match edition {
