@@ -1,0 +1,12 @@
+pub mod Sixteens
+pub mod Judging
+pub mod Moving
+pub mod Pointing
+pub mod Salvaging
+pub mod Settling
+pub mod Saying
+pub mod Rising
+pub mod Longest
+pub mod ReadBack
+pub mod Keeping
+pub mod Determined
