@@ -1,0 +1,12 @@
+pub mod Totals
+pub mod Sums
+pub mod Parts
+pub mod Blocks
+pub mod Tallies
+pub mod Counting
+pub mod Journals
+pub mod Staying
+pub mod Orders
+pub mod Compacted
+pub mod Dividing
+pub mod Determined
