@@ -17,7 +17,7 @@ static inline const char *reason_of(uint8_t refusal)
     case LW_NOT_IN_YEAR: return "week 53 in a year without one";
     case LW_WRONG_YEAR: return "the year is out of range";
     case LW_RUN_TOO_LONG: return "a run is longer than 65,536 bits";
-    case LW_IMPROPER: return "the state or the watch is not proper";
+    case LW_IMPROPER: return "the state, the watch or the report is not proper";
     case LW_NUMBER_TOO_WIDE: return "a number has a bit above place 49";
     case LW_NO_SUCH_CHANGE: return "no change within six neighbouring places makes the block good";
     case LW_SEVERAL_CHANGES: return "more than one such change makes the block good";
@@ -27,6 +27,9 @@ static inline const char *reason_of(uint8_t refusal)
     case LW_WRONG_FIXED_BITS: return "a fixed bit of the frame is wrong";
     case LW_NO_CODEWORD: return "no codeword differs in at most three symbols";
     case LW_WRONG_CRC: return "the CRC does not agree with the mended bytes";
+    case LW_WRONG_TRAILER: return "the trailer does not fit";
+    case LW_NOT_RISING: return "a bit number is not above the one before";
+    case LW_TOO_MANY_BLOCKS: return "a report would have more than 2^32 blocks";
     default: return "no such refusal";
     }
 }

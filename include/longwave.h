@@ -1,8 +1,9 @@
 /* The long-wave radio-data receiver, as C calls it.
  *
  * In memory a bit is a byte of value 0 or 1, first sent bit first. A block is
- * 50 of them: prefix 1, code 4, word 32, check word 13. The Polish frame alone
- * is otherwise: it is 12 whole bytes of eight bits each, first sent bit highest.
+ * 50 of them: prefix 1, code 4, word 32, check word 13. The Polish frame and the
+ * journal are otherwise: they are whole bytes of eight bits each, the first bit
+ * highest.
  *
  * A block can also be kept as one 64-bit number, which takes 8 bytes and not 50:
  * the first sent bit in place 49, the last in place 0, places 50 to 63 zero. The
@@ -46,7 +47,7 @@ enum {
                                  written date, is out of range */
     LW_RUN_TOO_LONG = 9,      /* a run is longer than 65,536 bits, or takes the bits that a
                                  watch was fed past 2^64 - 1 */
-    LW_IMPROPER = 10,         /* the state or the watch is not proper */
+    LW_IMPROPER = 10,         /* the state, the watch or the report is not proper */
     LW_NUMBER_TOO_WIDE = 14,  /* a number has a bit above place 49 */
     LW_NO_SUCH_CHANGE = 15,   /* no change within six neighbouring places makes the block good */
     LW_SEVERAL_CHANGES = 16,  /* more than one does; it never comes in fifty bits */
@@ -56,7 +57,10 @@ enum {
     LW_WRONG_SIZE = 19,       /* a frame is not 12 long, or a field to be written is too wide */
     LW_WRONG_FIXED_BITS = 20, /* a fixed bit of a frame is wrong */
     LW_NO_CODEWORD = 21,      /* no codeword differs from a frame's symbols in at most three */
-    LW_WRONG_CRC = 22         /* the CRC byte does not agree with the mended bytes */
+    LW_WRONG_CRC = 22,        /* the CRC byte does not agree with the mended bytes */
+    LW_WRONG_TRAILER = 23,    /* a journal's trailer does not fit */
+    LW_NOT_RISING = 24,       /* the bit number of a wanted entry is not above the one before */
+    LW_TOO_MANY_BLOCKS = 30   /* a report would have more than 2^32 blocks */
 };
 
 /* What was read; code and word are 0 where refused.
@@ -402,6 +406,85 @@ lw_counts lw_watch_run(uint16_t edition, lw_watch *watch, const uint8_t *bits, s
 /* Answers how the time stands.
  * Refusals, in this order: 6 for the edition, 10. */
 lw_standing lw_why(uint16_t edition, lw_watch watch);
+
+/* A journal of received blocks. It is bytes, all numbers big-endian: entries of 16
+ * bytes each, which are a bit number in 8 and a block as one number in 8, as lw_pack
+ * gives it; and as the last 16 bytes a trailer that points back, which is the offset
+ * of the first entry still wanted in 8 and the number of wanted entries, which stand
+ * one behind the other from there on, in 8.
+ *
+ * The trailer fits when the length is not 0, length and offset are multiples of 16,
+ * and the wanted entries end at or before the trailer; else 23. The wanted entries
+ * are looked at one after the other: a bit number that is not above the one before
+ * gets 24, then a block with a bit above place 49 gets 14. What stands before them,
+ * or between them and the trailer, may be anything. */
+enum {
+    LW_ENTRY = 16 /* the bytes of an entry, and of the trailer */
+};
+
+/* What compaction leaves. */
+typedef struct lw_compacted {
+    uint8_t refusal;
+    uint64_t length; /* the bytes of the journal now, its trailer among them; 0 where refused */
+} lw_compacted;
+
+/* Compacts a journal where it stands: the wanted entries come to the front in their
+ * order, behind them a trailer with offset 0, and all bytes behind that are 0. The
+ * journal is `length` bytes long from then on, and the caller gives that length
+ * wherever it is handed over: of the whole `len` the last 16 bytes may be zeros, and
+ * would be the trailer of a journal in which nothing is wanted.
+ * Refusals, in this order: 23, then 24 or 14 at the first bad wanted entry; the bytes
+ * then stay as they are. */
+lw_compacted lw_compact(uint8_t *journal, size_t len);
+
+/* What is left of a journal without a trailer. */
+typedef struct lw_salvaged {
+    uint64_t kept; /* the bytes in the longest run of sound entries from the front */
+    uint64_t rest; /* the bytes behind it */
+} lw_salvaged;
+
+/* Looks how much of a journal without a trailer can be used, as where the power
+ * failed: the longest run from the front of whole entries whose bit numbers rise and
+ * whose blocks have no bit above place 49. Nothing is written and nothing refused. A
+ * trailer is an entry like any other here. */
+lw_salvaged lw_salvage(const uint8_t *journal, size_t len);
+
+/* A reception report: totals over many journals. It belongs to the caller, who may
+ * copy it; all zeros are a fresh one.
+ *
+ * It is proper when `blocks` is at most 2^32, the codes add up to `good`, `good` is
+ * at most `blocks` and `fillers` at most `codes[0]`. */
+typedef struct lw_report {
+    uint64_t blocks;    /* all blocks, 0 to 2^32 */
+    uint64_t good;      /* of these the good ones */
+    uint64_t fillers;   /* of these the fillers, which have code 0 */
+    uint64_t codes[16]; /* the good ones of each code, the fillers among those of code 0 */
+} lw_report;
+
+/* Adds the wanted entries of a journal to a report. Which blocks are fillers is a
+ * matter of the edition. Journals may come in any order, and their bit numbers need
+ * not rise from one to the next.
+ * Answers 0, or a refusal, in this order: 6 for the edition, 10, 23, then 24 or 14
+ * at the first bad wanted entry, and 30; the report then stays as it is. Exactly
+ * 2^32 blocks are taken. */
+uint8_t lw_report_add(uint16_t edition, lw_report *report, const uint8_t *journal, size_t len);
+
+/* Adds the totals of another report to a report: what several machines counted, each
+ * from its own journals, becomes what one would have counted from all of them.
+ * Answers 0, or a refusal, in this order: 10 for either, 30; the report then stays as
+ * it is. Exactly 2^32 blocks are taken. */
+uint8_t lw_report_join(lw_report *report, lw_report other);
+
+/* Good blocks per thousand, as a quotient and what is left of the division. */
+typedef struct lw_share {
+    uint8_t refusal;
+    uint64_t quotient;  /* 0 to 1000 */
+    uint64_t remainder; /* below `blocks`: 1000 good = blocks * quotient + remainder */
+} lw_share;
+
+/* Answers how many blocks of a thousand were good; of no blocks, zeros.
+ * Refusal: 10. */
+lw_share lw_per_thousand(lw_report report);
 
 /* What a Polish frame tells, the time signal on 225 kHz. The seven fields behind
  * the count are one bit each. Where two of them belong together, a table gives

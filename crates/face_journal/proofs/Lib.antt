@@ -1,0 +1,3 @@
+pub mod Copying
+pub mod Lent
+pub mod Determined
