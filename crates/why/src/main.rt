@@ -5,7 +5,6 @@ ghost use mathlib.Core.Path.{_≡_};
 ghost use Rattle.watch.specs.Watches.{watchProper};
 ghost use Rattle.why.specs.Told.{FedOn, Told};
 
-mod command;
 mod report;
 
 use command::asked;
@@ -72,7 +71,7 @@ fn read_all(edition: Edition) -> Ending
 
 // After a failed read, which was told, nothing is said.
 fn main() {
-    let Named::Given(edition) = asked() else {
+    let Named::Given(edition) = asked(b"why") else {
         return;
     };
     let ending = read_all(edition);
