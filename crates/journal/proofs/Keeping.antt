@@ -22,7 +22,7 @@ use Rattle.journal.proofs.Sixteens.{length-entries, length-pair, length
 
 -- ---- entries and the trailer behind them
 
-abbrev kept : List Entry → List ℕ
+abbrev pub kept : List Entry → List ℕ
 kept es = bytesOf es ++ pairBytes 0 (length es)
 
 kept-length : (es : List Entry) → length (kept es) ≡ journalLength es
@@ -41,7 +41,7 @@ module _ (es : List Entry) (small : AllSmall es) (few : length es < 2 ^ 64) wher
       sym (pointed (kept es) (omega (arith, kept-length es)) (omega (arith, kept-length es)) (sym (ap (λ (e : Entry). e .bit) trailer-back))
       (sym (ap (λ (e : Entry). e .block) trailer-back)) refl (omega (arith, kept-length es)))
 
-  kept-says : verdictFrom 0 es ≡ Sound → saysOf (kept es) ≡ entries es
+  pub kept-says : verdictFrom 0 es ≡ Sound → saysOf (kept es) ≡ entries es
   unfolding checkedOf
   kept-says sound =
       let back : entriesOf (length es) (kept es) ≡ es = entries-back es (pairBytes 0 (length es)) small in

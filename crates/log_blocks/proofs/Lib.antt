@@ -1,0 +1,3 @@
+-- The laws, in reading order.
+pub mod Hearing
+pub mod Logging
