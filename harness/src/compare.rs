@@ -2,6 +2,7 @@
 //! answers and every lent byte must agree, and no byte beside them may change.
 
 mod joining;
+mod journal;
 mod mending;
 mod packed;
 mod polish;
@@ -10,6 +11,7 @@ mod record;
 mod watch;
 
 pub use joining::*;
+pub use journal::*;
 pub use mending::*;
 pub use packed::*;
 pub use polish::*;

@@ -1,6 +1,7 @@
 //! Safe calls to the library, as `include/longwave.h` declares them.
 
 mod joining;
+mod journal;
 mod mending;
 mod packed;
 mod packed_state;
@@ -10,6 +11,7 @@ mod record;
 mod watch;
 
 pub use joining::*;
+pub use journal::*;
 pub use mending::*;
 pub use packed::*;
 pub use packed_state::*;

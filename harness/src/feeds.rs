@@ -92,6 +92,19 @@ pub fn plain(edition: Edition, first: Record, minutes: usize) -> String {
     text
 }
 
+/// Bits as characters with newlines among them, one before every so many bits and some
+/// anywhere.
+pub fn with_newlines(bits: &[u8], often: usize, random: &mut Random) -> Vec<u8> {
+    let mut text = Vec::new();
+    for (place, bit) in bits.iter().enumerate() {
+        if place % often == often - 1 || random.below(often * 10) == 0 {
+            text.push(b'\n');
+        }
+        text.push(b'0' + bit);
+    }
+    text
+}
+
 /// What can befall a block of a feed.
 #[derive(Clone, Copy, Debug, PartialEq)]
 pub enum Mishap {

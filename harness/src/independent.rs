@@ -1,8 +1,8 @@
 //! The answers, written from documents 01 and 02 alone. Here the block, by long
 //! division on one number; the block that stays a number, the block that is mended,
 //! the editions, the record, the calendar, the receiver, its packed state, what is
-//! told of it when it is watched, the remainders of strings, and the Polish frame
-//! have files of their own.
+//! told of it when it is watched, the remainders of strings, the journal with its
+//! report, and the Polish frame have files of their own.
 //!
 //! A polynomial modulo 2 is a number, one bit for each power of x, and a block
 //! is its fifty bits as one number: bit 49 is the first sent.
@@ -10,6 +10,7 @@
 pub mod calendar;
 pub mod edition;
 pub mod joining;
+pub mod journal;
 pub mod mending;
 pub mod packed;
 pub mod packed_state;
@@ -65,6 +66,13 @@ pub fn number_of(digits: &[u8]) -> u64 {
 /// Fifty bits as bytes, in the order of sending.
 pub fn bits_of(block: u64) -> [u8; BLOCK] {
     digits_of(block)
+}
+
+/// The bits of an input of characters: a newline is skipped, and anything else but 0
+/// and 1 ends it.
+pub fn bits_in(input: &[u8]) -> Vec<u8> {
+    let until_end = input.iter().take_while(|byte| b"01\n".contains(byte));
+    until_end.filter(|&&byte| byte != b'\n').map(|byte| byte - b'0').collect()
 }
 
 /// Why fifty bits are no block, and what is told with a wrong check word.

@@ -2,8 +2,11 @@
 
 use std::env;
 
-use crate::face::{Date, Polish, Record, State, Watch, CANDIDATE, CONFIRMED, LOCKED, TRYING};
+use crate::face::{
+    Date, Polish, Record, Report, State, Watch, CANDIDATE, CONFIRMED, LOCKED, TRYING,
+};
 use crate::independent::joining::LARGEST;
+use crate::independent::journal::MOST;
 use crate::independent::packed_state::packed;
 use crate::independent::polish::SYMBOLS;
 use crate::independent::{bits_of, block, calendar, Edition, BLOCK};
@@ -176,6 +179,21 @@ impl Random {
             dropped: up_to_fed(state.mode == LOCKED),
             displaced: up_to_fed(state.time == CANDIDATE),
         }
+    }
+
+    /// A proper report of any size, with some of the codes left out.
+    pub fn proper_report(&mut self) -> Report {
+        let blocks = (self.number() % (MOST + 1)) >> self.below(33);
+        let mut rest = self.number() % (blocks + 1);
+        let mut report = Report { blocks, good: rest, ..Report::FRESH };
+        for _ in 0..self.below(16) {
+            let some = self.number() % (rest + 1);
+            report.codes[self.below(16)] += some;
+            rest -= some;
+        }
+        report.codes[self.below(16)] += rest;
+        report.fillers = self.number() % (report.codes[0] + 1);
+        report
     }
 
     /// A date of 1900 to 2100. Its month may lack its day.

@@ -58,7 +58,7 @@ fn stored(edition: Edition, told: bool, (text, why): Made) -> Stored {
 }
 
 /// Bits as characters, so many to a line.
-fn in_lines(bits: &[u8], length: usize) -> Vec<u8> {
+pub fn in_lines(bits: &[u8], length: usize) -> Vec<u8> {
     let line = |bits: &[u8]| bits.iter().map(|bit| b'0' + bit).chain([b'\n']).collect::<Vec<u8>>();
     bits.chunks(length).flat_map(line).collect()
 }

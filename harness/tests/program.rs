@@ -12,7 +12,7 @@ use std::thread::sleep;
 use std::time::Duration;
 
 use harness::face::{CONFIRMED, LOCKED};
-use harness::feeds::{troubled, MISHAPS};
+use harness::feeds::{troubled, with_newlines, MISHAPS};
 use harness::independent::calendar::date_of_record;
 use harness::independent::receiver::History;
 use harness::independent::{Edition, EDITIONS};
@@ -117,13 +117,7 @@ fn long_inputs() {
         bits.extend(random.bits(100_000));
         // Lines of a block, of any length, or none.
         let often = [51, 2, 1_000_000][round % 3];
-        let mut text = Vec::new();
-        for (place, bit) in bits.iter().enumerate() {
-            if place % often == often - 1 || random.below(often * 10) == 0 {
-                text.push(b'\n');
-            }
-            text.push(b'0' + bit);
-        }
+        let text = with_newlines(&bits, often, &mut random);
         let printed = receive(&input("long.txt", &text));
         assert!(printed.starts_with("LOCK") && printed.contains("LOST"));
         count += bits.len();

@@ -10,12 +10,14 @@ use std::path::{Path, PathBuf};
 use std::process::{Command, Output, Stdio};
 
 use harness::face::{Date, Record};
-use harness::feeds::{bits_of_all, empty_filler, plain, time_block, troubled, MINUTE, MISHAPS};
+use harness::feeds::{
+    bits_of_all, empty_filler, plain, time_block, troubled, with_newlines, MINUTE, MISHAPS,
+};
 use harness::independent::calendar::{next_minute, record_of_date};
 use harness::independent::receiver::RUN;
 use harness::independent::watch::{after_input, Watched, Why};
 use harness::independent::{Edition, EDITIONS};
-use harness::program::{example, explainer, stored_feed};
+use harness::program::{example, explainer, stored_feed, NO_EDITIONS};
 use harness::random::{report, Random};
 use harness::stored::{all, file, list, Stored, LIST};
 use harness::stories::Story;
@@ -145,13 +147,7 @@ fn long_inputs() {
         bits.extend(random.bits(more));
         assert!(bits.len() > RUN);
         let often = [51, 2, 1_000_000][round / 2 % 3];
-        let mut text = Vec::new();
-        for (place, bit) in bits.iter().enumerate() {
-            if place % often == often - 1 || random.below(often * 10) == 0 {
-                text.push(b'\n');
-            }
-            text.push(b'0' + bit);
-        }
+        let text = with_newlines(&bits, often, &mut random);
         let path = input(&format!("long {}.txt", edition.number()), &text);
         let line = after_input(edition, &text).line();
         must_say(&program, &[&edition.number().to_string()], &path, &line);
@@ -228,34 +224,11 @@ fn the_minutes_of_the_example() {
     assert_eq!(said, text("why.expected"));
 }
 
-/// 67518 and 4294969278 are 1982 in 16 and in 32 bits.
 #[test]
 fn a_wrong_edition_gets_a_line_on_standard_error() {
     let Some(program) = why() else { return };
     let feed = stored_feed(&file(18));
-    for text in [
-        "",
-        "0",
-        "1",
-        "82",
-        "84",
-        "1981",
-        "1983",
-        "1985",
-        "19820",
-        "198",
-        "abc",
-        "1982x",
-        "x1984",
-        "-1982",
-        "1984-",
-        " 1984",
-        "1984 ",
-        "67518",
-        "67520",
-        "4294969278",
-        "18446744073709553600",
-    ] {
+    for text in NO_EDITIONS {
         must_complain(&program, &[text], &feed);
     }
     must_complain(&program, &["1984", "1984"], &feed);

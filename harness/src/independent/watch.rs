@@ -3,7 +3,7 @@
 
 use super::packed_state::{self, packed, unpacked};
 use super::receiver::{Event, History, RUN};
-use super::Edition;
+use super::{bits_in, Edition};
 use crate::face::{Counts, Record, Watch, CANDIDATE, CONFIRMED, LOCKED, NO_TIME};
 use crate::refusals::{IMPROPER, RUN_TOO_LONG};
 
@@ -206,8 +206,6 @@ pub fn why(number: u16, watch: &Watch) -> Result<Why, u8> {
 /// a newline is skipped, and anything else ends the input.
 pub fn after_input(edition: Edition, input: &[u8]) -> Why {
     let mut watched = Watched::fresh(edition);
-    let until_end = input.iter().take_while(|byte| b"01\n".contains(byte));
-    let bits = until_end.filter(|&&byte| byte != b'\n').map(|byte| byte - b'0');
-    bits.for_each(|bit| watched.hear(bit));
+    bits_in(input).into_iter().for_each(|bit| watched.hear(bit));
     watched.why()
 }
