@@ -10,6 +10,7 @@ mod clock;
 mod contest;
 mod in_place;
 mod joining;
+mod journal;
 mod mending;
 mod mending_table;
 mod numbers;
@@ -41,6 +42,7 @@ fn main() {
             numbers::measure();
             mending::measure();
             joining::measure();
+            journal::measure();
             receiver::measure();
             watching::measure();
             polish::measure();
