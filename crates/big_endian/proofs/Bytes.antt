@@ -8,7 +8,7 @@ use native.Mathlib.Omega.{arith}
 use borrow.Author.Tests.{le-leb}
 use borrow.Rule.Slice.PartMut.{midOf, putMid, mid-len, post-is}
 use lib.ListN.{length, getD, take, drop, length-take, length-drop}
-use lib.Pow.{pow-add, pow-mono, mod-mod-pow, mod-pow-add, high, low}
+use lib.Pow.{pow-mono, mod-mod-pow, mod-pow-add, high, low}
 use lib.Seq.{take-all, take-suc}
 use Rattle.big_endian.specs.Bytes.{Told, keptBehind, numberAt}
 use Rattle.big_endian.specs.Digits.{digits, number}

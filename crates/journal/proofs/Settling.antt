@@ -8,9 +8,9 @@ use lib.ListN.{length, take, drop, length-append, length-drop}
 use lib.Seq.{take-at}
 use Rattle.block.specs.Bits.{zeros}
 use Rattle.journal.specs.Compaction.{journalOf, journalLength}
-use Rattle.journal.specs.Entries.{entriesOf, pairBytes, bytesOf}
+use Rattle.journal.specs.Entries.{pairBytes, bytesOf}
 use Rattle.journal.specs.declared.Entry.{Entry}
-use Rattle.journal.proofs.Sixteens.{length-entries, length-pair, length-bytes, after, put-front, put-length}
+use Rattle.journal.proofs.Sixteens.{length-pair, length-bytes, after, put-front, put-length}
 
 module _ (s : List ℕ) (es : List Entry) (count : ℕ) (many : length es ≡ count) (inside : 16 * count + 16 ≤ length s) where
   abbrev end : ℕ

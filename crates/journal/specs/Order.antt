@@ -3,7 +3,6 @@
 -- Assumes nothing.
 use mathlib.Core.Bool.{cond, _&&_}
 use mathlib.Core.List.{List, [], _∷_}
-use mathlib.Core.Path.{_≡_}
 use Prim.Native.Nat.{ℕ, suc, _+_, _<_, _^_}
 use lib.Dec.{eqb, leb}
 use lib.ListN.{length, getD}

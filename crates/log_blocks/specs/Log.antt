@@ -1,11 +1,10 @@
 -- The journal of the blocks that a receiver uses up, good and bad, each with the number of its last bit (02, No. 12).
 -- Assumes nothing.
 use Prim.Native.Nat.{ℕ, _+_, _%_, _^_}
-use mathlib.Core.Bool.{Bool, cond}
+use mathlib.Core.Bool.{cond}
 use mathlib.Core.List.{List, [], _∷_}
 use mathlib.Core.Path.{_≡_}
 use lib.Dec.{ltb}
-use Rattle.block.specs.Bits.{Bits}
 use Rattle.journal.specs.declared.Entry.{Entry}
 use Rattle.record.specs.declared.Edition.{Edition}
 use Rattle.record.specs.declared.Edition.the-variants.{Of1984}

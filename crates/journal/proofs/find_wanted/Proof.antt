@@ -1,7 +1,7 @@
 -- `find_wanted` meets its contract: what the trailer points at, by the verdict on it.
 -- Assumes nothing.
 use borrow.Author.Needs.{needs}
-use mathlib.Core.Path.{_≡_, sym, _∙_}
+use mathlib.Core.Path.{sym, _∙_}
 use native.Mathlib.Omega.{arith}
 use Rattle.journal.proofs.Pointing.{pointed-inside, sound-wanted, faulty-refused, refused-too}
 use Rattle.journal.proofs.find_wanted.Statement.{statement}

@@ -1,6 +1,5 @@
 -- `log_all` meets its contract. The loop's invariant: what is kept now, with the bits that are left, comes to what is kept after all.
 -- Assumes nothing.
-use borrow.Author.Needs.{needs}
 use mathlib.Core.List.{List}
 use mathlib.Core.Path.{_≡_, refl, sym, ap, _∙_}
 use Prim.Native.Nat.{ℕ, _+_, _-_, _≤_, _<_}

@@ -1,8 +1,8 @@
 -- `check_entries` meets its contract. The loop's invariant: what was found so far, with the entries that are left, is the answer.
 -- Assumes nothing.
 use borrow.Author.Tests.{leb-true, leb-false}
-use mathlib.Core.Path.{_≡_, sym, _∙_}
-use Prim.Native.Nat.{ℕ, _≤_, _<_, _-_, _*_, _+_}
+use mathlib.Core.Path.{sym, _∙_}
+use Prim.Native.Nat.{_≤_, _-_}
 use native.Mathlib.Omega.{arith}
 use Rattle.journal.specs.Order.{leastAfter}
 use Rattle.journal.proofs.Judging.{Answers, all-left, none-left, one-more, wide, late}
