@@ -24,6 +24,12 @@ pub enum Refusal {
     RunTooLong,
     // The state, the watch or the report is not proper.
     Improper,
+    // The board handed over fewer than 64 readings.
+    TooFewReadings,
+    // A reading is not from -45 to 45, or the margin not from 0 to 90.
+    OutOfDegrees,
+    // Both pairings of the readings have as many pairs of opposite sign.
+    EqualPairings,
     // A block's number has a bit above place 49.
     NumberTooWide,
     // No change within six neighbouring places makes a block good.
@@ -48,6 +54,8 @@ pub enum Refusal {
     NotRising,
     // A report would have more than 2^32 blocks.
     TooManyBlocks,
+    // A slice is too short for the bits.
+    NoRoom,
 }
 
 // The number that the documents give the refusal.
@@ -65,6 +73,9 @@ pub fn number(refusal: Refusal) -> u8
         Refusal::WrongYear => 8,
         Refusal::RunTooLong => 9,
         Refusal::Improper => 10,
+        Refusal::TooFewReadings => 11,
+        Refusal::OutOfDegrees => 12,
+        Refusal::EqualPairings => 13,
         Refusal::NumberTooWide => 14,
         Refusal::NoSuchChange => 15,
         Refusal::SeveralChanges => 16,
@@ -77,5 +88,6 @@ pub fn number(refusal: Refusal) -> u8
         Refusal::WrongTrailer => 23,
         Refusal::NotRising => 24,
         Refusal::TooManyBlocks => 30,
+        Refusal::NoRoom => 31,
     }
 }
