@@ -18,6 +18,9 @@ static inline const char *reason_of(uint8_t refusal)
     case LW_WRONG_YEAR: return "the year is out of range";
     case LW_RUN_TOO_LONG: return "a run is longer than 65,536 bits";
     case LW_IMPROPER: return "the state, the watch or the report is not proper";
+    case LW_TOO_FEW_READINGS: return "fewer than 64 readings";
+    case LW_OUT_OF_DEGREES: return "a reading or the margin is out of range";
+    case LW_EQUAL_PAIRINGS: return "both pairings have as many pairs of opposite sign";
     case LW_NUMBER_TOO_WIDE: return "a number has a bit above place 49";
     case LW_NO_SUCH_CHANGE: return "no change within six neighbouring places makes the block good";
     case LW_SEVERAL_CHANGES: return "more than one such change makes the block good";
@@ -30,6 +33,7 @@ static inline const char *reason_of(uint8_t refusal)
     case LW_WRONG_TRAILER: return "the trailer does not fit";
     case LW_NOT_RISING: return "a bit number is not above the one before";
     case LW_TOO_MANY_BLOCKS: return "a report would have more than 2^32 blocks";
+    case LW_NO_ROOM: return "the slice is too short for the bits";
     default: return "no such refusal";
     }
 }

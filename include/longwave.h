@@ -41,13 +41,17 @@ enum {
     LW_WRONG_PREFIX = 3,      /* the prefix is 0 */
     LW_WRONG_CHECK_WORD = 4,  /* the check word is not the remainder */
     LW_NOT_A_RECORD = 5,      /* code not 0, or a filler, where a record is read */
-    LW_OUT_OF_RANGE = 6,      /* an edition, field, code, month or day is out of range */
+    LW_OUT_OF_RANGE = 6,      /* an edition, polarity, field, code, month or day is out of
+                                 range */
     LW_NOT_IN_YEAR = 7,       /* week 53 in a year without one */
     LW_WRONG_YEAR = 8,        /* the first of the 28 years, or the civil or coded year of a
                                  written date, is out of range */
     LW_RUN_TOO_LONG = 9,      /* a run is longer than 65,536 bits, or takes the bits that a
                                  watch was fed past 2^64 - 1 */
     LW_IMPROPER = 10,         /* the state, the watch or the report is not proper */
+    LW_TOO_FEW_READINGS = 11, /* the radio board handed over fewer than 64 readings */
+    LW_OUT_OF_DEGREES = 12,   /* a reading is not from -45 to 45, or the margin not from 0 to 90 */
+    LW_EQUAL_PAIRINGS = 13,   /* both pairings have as many pairs of opposite sign */
     LW_NUMBER_TOO_WIDE = 14,  /* a number has a bit above place 49 */
     LW_NO_SUCH_CHANGE = 15,   /* no change within six neighbouring places makes the block good */
     LW_SEVERAL_CHANGES = 16,  /* more than one does; it never comes in fifty bits */
@@ -60,7 +64,8 @@ enum {
     LW_WRONG_CRC = 22,        /* the CRC byte does not agree with the mended bytes */
     LW_WRONG_TRAILER = 23,    /* a journal's trailer does not fit */
     LW_NOT_RISING = 24,       /* the bit number of a wanted entry is not above the one before */
-    LW_TOO_MANY_BLOCKS = 30   /* a report would have more than 2^32 blocks */
+    LW_TOO_MANY_BLOCKS = 30,  /* a report would have more than 2^32 blocks */
+    LW_NO_ROOM = 31           /* a slice is too short for the decided bits */
 };
 
 /* What was read; code and word are 0 where refused.
@@ -354,6 +359,34 @@ lw_counts lw_feed_packed(uint16_t edition, lw_packed_state *state, uint8_t bit);
  * those of the bits before it. */
 lw_counts lw_run_packed(uint16_t edition, lw_packed_state *state,
                         const uint8_t *bits, size_t len);
+
+/* What became of the radio board's readings; zeros where refused. */
+typedef struct lw_decided {
+    uint8_t refusal;
+    uint8_t pairing; /* 0 where the pairs start with the first reading, 1 with the second */
+    uint64_t bits;   /* how many bits were written */
+} lw_decided;
+
+/* Decides bits from the half-bit readings of the radio board, in degrees, and writes
+ * them to the front of `bits`, as lw_run takes them; the rest of `bits` stays as it is.
+ *
+ * Two readings that belong together are a first and a second half. The bit is 1 where
+ * the first is greater and 0 where it is less; polarity 1 exchanges the two, polarity 0
+ * does not. The bit is doubtful where the halves are equal or differ, after one rounding
+ * to a float, by less than the margin: it is then written as 0 under either polarity.
+ *
+ * Which readings belong together is found from the first 64: of the 32 pairs that start
+ * with the first reading and the 31 that start with the second, those are taken among
+ * which more have opposite signs; zero has no sign. A reading left unpaired gives no
+ * bit, so n readings give (n - pairing) / 2.
+ *
+ * Every reading has to be a number from -45 to 45, paired or not, and the margin one
+ * from 0 to 90, all bounds included. The processor has to round to the nearest and to
+ * keep subnormal numbers, as it does unless a program changes it; a program linked with
+ * gcc's -ffast-math does.
+ * Refusals, in this order: 6 for another polarity, 11, 12, 13, 31. */
+lw_decided lw_decide(const float *readings, size_t len, float margin, uint8_t polarity,
+                     uint8_t *bits, size_t bits_len);
 
 /* A receiver with what is remembered of its history, so that it can be asked why
  * a dial is blank. It belongs to the caller, who may copy it; all zeros are a
