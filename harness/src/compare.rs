@@ -1,6 +1,7 @@
 //! One call to the library and the same question to the independent program:
 //! answers and every lent byte must agree, and no byte beside them may change.
 
+mod halves;
 mod joining;
 mod journal;
 mod mending;
@@ -10,6 +11,7 @@ mod receiver;
 mod record;
 mod watch;
 
+pub use halves::*;
 pub use joining::*;
 pub use journal::*;
 pub use mending::*;

@@ -1,5 +1,6 @@
 //! Safe calls to the library, as `include/longwave.h` declares them.
 
+mod halves;
 mod joining;
 mod journal;
 mod mending;
@@ -10,6 +11,7 @@ mod receiver;
 mod record;
 mod watch;
 
+pub use halves::*;
 pub use joining::*;
 pub use journal::*;
 pub use mending::*;

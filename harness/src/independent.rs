@@ -2,13 +2,15 @@
 //! division on one number; the block that stays a number, the block that is mended,
 //! the editions, the record, the calendar, the receiver, its packed state, what is
 //! told of it when it is watched, the remainders of strings, the journal with its
-//! report, and the Polish frame have files of their own.
+//! report, the Polish frame, and the readings of the radio board with the whole numbers
+//! they are taken as have files of their own.
 //!
 //! A polynomial modulo 2 is a number, one bit for each power of x, and a block
 //! is its fifty bits as one number: bit 49 is the first sent.
 
 pub mod calendar;
 pub mod edition;
+pub mod halves;
 pub mod joining;
 pub mod journal;
 pub mod mending;
@@ -18,6 +20,7 @@ pub mod polish;
 pub mod receiver;
 pub mod record;
 pub mod watch;
+pub mod whole;
 
 pub use edition::{Edition, EDITIONS};
 

@@ -110,7 +110,7 @@ impl Random {
     }
 
     /// Exactly `count` of so many places, as the ones of a number.
-    fn places(&mut self, count: usize, all: usize) -> u64 {
+    pub fn places(&mut self, count: usize, all: usize) -> u64 {
         let mut places: u64 = 0;
         while places.count_ones() < count as u32 {
             places |= 1 << self.below(all);
