@@ -8,6 +8,7 @@ mod circuit;
 mod circuit_number;
 mod clock;
 mod contest;
+mod halves;
 mod in_place;
 mod joining;
 mod journal;
@@ -43,6 +44,7 @@ fn main() {
             mending::measure();
             joining::measure();
             journal::measure();
+            halves::measure();
             receiver::measure();
             watching::measure();
             polish::measure();
