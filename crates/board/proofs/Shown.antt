@@ -1,6 +1,6 @@
 -- Decided bits are 0 or 1, so a run feeds all of them.
 -- Assumes nothing.
-use borrow.Author.Tests.{lt-ltb, le-ltb}
+use borrow.Author.Tests.{le-ltb}
 use mathlib.Core.Bool.{Bool, true, false, cond}
 use mathlib.Core.List.{List, [], _∷_, _++_}
 use mathlib.Core.Path.{_≡_, refl, sym, ap, _∙_}
@@ -18,7 +18,6 @@ use Rattle.record.specs.declared.Edition.{Edition}
 use Rattle.record.specs.declared.Edition.the-variants.{Of1984, Of1982}
 use Rattle.record.specs.declared.Named.the-variants.{Given, Refused}
 use Rattle.timekeeping.proofs.Choices.{cond-elim}
-use Rattle.locking.specs.declared.Blocks.{Blocks}
 use Rattle.locking.specs.Modes.{noBlocks}
 use Rattle.halves.specs.Answer.{planOf, writtenBy, writtenOf, countIn}
 use Rattle.halves.specs.Decision.{Decision, one, zero, unsure, decisionOf, bitOf, bitsOf}
@@ -30,14 +29,15 @@ use Rattle.halves.specs.declared.Polarity.{Polarity}
 use Rattle.halves.specs.declared.Polarity.the-variants.{AsItStands, Exchanged}
 use Rattle.halves.proofs.Choosing.{paired-length}
 use Rattle.halves.proofs.Taking.{taken-exactly}
-use Rattle.receiver.specs.History.{bitsBefore, afterFrom}
-use Rattle.receiver.specs.Runs.{runFrom, runOf, refusedRun}
+use Rattle.receiver.specs.History.{afterFrom}
+use Rattle.receiver.specs.Runs.{runOf, refusedRun}
 use Rattle.receiver.specs.States.{properOf}
 use Rattle.receiver.specs.declared.Ran.{Ran}
 use Rattle.receiver.specs.declared.State.{State}
 use Rattle.receiver.proofs.Balance.{from-balance}
 use Rattle.receiver.proofs.StaysProper.{room}
-use Rattle.receiver.proofs.WholeHistory.{from-after}
+use Rattle.receiver.proofs.Together.{from-bits}
+use Rattle.receiver.proofs.WholeHistory.{bits-before, from-after}
 use Rattle.face_receiver.specs.Under.{runUnder}
 use Rattle.face_halves.specs.Under.{polarityOf, decidedUnder, writtenUnder}
 use Rattle.board.specs.Fed.{Took, FedAsBefore}
@@ -121,31 +121,21 @@ module _ (readings : List Float) (margin : Float) (held : List ℕ) where
 
 -- ---- a run of bits
 
-all-before : (bs : List ℕ) → Bits bs → bitsBefore bs ≡ bs
-unfolding bitsBefore
-all-before [] h = refl
-all-before (b ∷ bs) h = rw (lt-ltb b 2 (h .0)) (ap (λ (l : List ℕ). b ∷ l) (all-before bs (h .1)))
-
 module _ (edition : Edition) where
-  not-refused : (bs : List ℕ) → Bits bs → (blocks : Blocks) (passed : ℕ) (s : State) → runFrom edition bs blocks passed s .counts .refusal ≡ 0
-  unfolding runFrom
-  not-refused [] h blocks passed s = refl
-  not-refused (b ∷ bs) h blocks passed s = rw (lt-ltb b 2 (h .0)) (not-refused bs (h .1) _ _ _)
-
   never-one : (s : State) (bs : List ℕ) → Bits bs → runOf edition s bs .counts .refusal ≡ 1 → ⊥
   unfolding runOf
   never-one s bs h =
       let P : Ran → Type 0 = λ r. r .counts .refusal ≡ 1 → ⊥ in
       cond-elim P (ltb 65536 (length bs)) (λ _ e. absurd (omega arith))
-      (λ _. cond-elim P (properOf edition s) (λ _ e. absurd (omega (arith, not-refused bs h noBlocks 0 s))) (λ _ e. absurd (omega arith)))
+      (λ _. cond-elim P (properOf edition s) (λ _ e. absurd (omega (arith, from-bits edition bs noBlocks 0 s h))) (λ _ e. absurd (omega arith)))
 
   took : (s : State) (bs : List ℕ) → Bits bs → properOf edition s ≡ true → length bs ≤ 65536 → Took edition s bs (runOf edition s bs)
   unfolding runOf
   took s bs h p n =
-      let before = all-before bs h in
+      let before = bits-before bs h in
       rw (le-ltb 65536 (length bs) n, p)
       record {
-        taken = not-refused bs h noBlocks 0 s;
+        taken = from-bits edition bs noBlocks 0 s h;
         steps = from-after edition bs noBlocks 0 s ∙ ap (afterFrom edition s) before;
         balance = omega (arith, ap length before, from-balance edition bs noBlocks 0 s (room edition s p));
       }

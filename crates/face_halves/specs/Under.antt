@@ -13,6 +13,7 @@ use Rattle.halves.specs.declared.Decided.the-variants.{Refused}
 use Rattle.halves.specs.declared.Polarity.{Polarity}
 use Rattle.halves.specs.declared.Polarity.the-variants.{AsItStands, Exchanged}
 
+-- of the two numbers that name one
 abbrev pub polarityOf : ℕ → Polarity
 polarityOf number = cond (eqb number 0) AsItStands Exchanged
 

@@ -4,7 +4,7 @@ use Prim.Native.Nat.{ℕ}
 use mathlib.Core.Path.{_≡_, refl, sym, ap, _∙_}
 use mathlib.Core.Bool.{true}
 use mathlib.Core.List.{List, [], _∷_, _++_}
-use borrow.Author.Tests.{ltb-true}
+use borrow.Author.Tests.{ltb-true, lt-ltb}
 use lib.Dec.{ltb}
 use lib.ListN.{length}
 use Rattle.block.specs.Bits.{Bits}
@@ -27,6 +27,12 @@ pub before-bits : (bs : List ℕ) → Bits (bitsBefore bs)
 unfolding bitsBefore
 before-bits [] = tt
 before-bits (b ∷ bs) = cond-elim Bits (ltb b 2) (λ e. (ltb-true b 2 e, before-bits bs)) (λ _. tt)
+
+-- of bits none is left out
+pub bits-before : (bs : List ℕ) → Bits bs → bitsBefore bs ≡ bs
+unfolding bitsBefore
+bits-before [] h = refl
+bits-before (b ∷ bs) h = rw (lt-ltb b 2 (h .0), bits-before bs (h .1))
 
 -- ---- all runs
 

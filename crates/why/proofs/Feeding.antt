@@ -3,16 +3,16 @@
 -- Assumes nothing.
 use Prim.Native.Nat.{ℕ, _+_, _≤_, _^_}
 use mathlib.Core.Bool.{true}
-use mathlib.Core.List.{List, [], _∷_, _++_}
+use mathlib.Core.List.{List, [], _++_}
 use mathlib.Core.Path.{_≡_, refl, ap, _∙_}
-use borrow.Author.Tests.{lt-ltb, le-ltb}
+use borrow.Author.Tests.{le-ltb}
 use lib.Dec.{leb}
 use lib.ListN.{length}
 use Rattle.block.specs.Bits.{Bits}
 use Rattle.block.proofs.Strings.{bits-append}
 use Rattle.record.specs.declared.Edition.{Edition}
 use Rattle.timekeeping.proofs.Choices.{cond-elim}
-use Rattle.receiver.specs.History.{bitsBefore}
+use Rattle.receiver.proofs.WholeHistory.{bits-before}
 use Rattle.watch.specs.declared.Standing.{Standing}
 use Rattle.watch.specs.declared.Watch.{Watch}
 use Rattle.watch.specs.declared.Watched.{Watched}
@@ -21,11 +21,6 @@ use Rattle.watch.specs.Watches.{freshWatch, watchProper, watchAfter, watchedOf}
 use Rattle.watch.proofs.Watching.{fresh-watch-proper, after-append, after-proper}
 use Rattle.watch.proofs.History.{bits-shown}
 use Rattle.why.specs.Told.{FedOn, Told}
-
-all-before : (bs : List ℕ) → Bits bs → bitsBefore bs ≡ bs
-unfolding bitsBefore
-all-before [] h = refl
-all-before (b ∷ bs) h = rw (lt-ltb b 2 (h .0), all-before bs (h .1))
 
 module _ (edition : Edition) where
   fed-none : (w : Watch) → FedOn edition w w
@@ -37,7 +32,7 @@ module _ (edition : Edition) where
   fed-piece w bs bits short p =
       rw (le-ltb 65536 (length bs) short, p)
       (cond-elim (λ (r : Watched). FedOn edition w (r .watch)) (leb (2 ^ 64) (w .fed + length bs)) (λ _. fed-none w)
-      (λ _. record { history = bs; bits = bits; fed = ap (watchAfter edition w) (all-before bs bits) }))
+      (λ _. record { history = bs; bits = bits; fed = ap (watchAfter edition w) (bits-before bs bits) }))
 
   -- ---- from a fresh watch on
 
