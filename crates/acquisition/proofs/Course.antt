@@ -31,7 +31,7 @@ use Rattle.acquisition.proofs.Fed.{few, on, over}
 
 -- the same state, whole blocks later or earlier, is as much in step
 pub in_step_as : {s t : State} (m n : ℕ) → m % 50 ≡ n % 50 → s ≡ t → InStep m s → InStep n t
-in_step_as m n e same i = subst (InStep n) same (record { is_locked_lem = i.is_locked_lem; in_step = i.in_step ∙ e })
+in_step_as m n e same i = subst (InStep n) same (record { is_locked = i.is_locked; in_step = i.in_step ∙ e })
 
 -- ---- good blocks
 
@@ -135,7 +135,7 @@ module _ (edition : Edition) (v : List ℕ) where
     keeps : (q : ℕ) (l : Lock) (k n : ℕ) → l.mode ≡ locked → k % 50 ≡ r → n < 50 → k + (50 * q + n) ≤ length v → InStep n (at l k (50 * q + n))
     keeps zero l k n m e few-left h =
         let f : 50 * 0 + n ≡ n = omega arith in
-        rw (f, at_few l k n few-left (omega arith)) (record { is_locked_lem = m; in_step = omega arith })
+        rw (f, at_few l k n few-left (omega arith)) (record { is_locked = m; in_step = omega arith })
     keeps (suc q) l k n m e few-left h =
         let f : 50 * suc q + n ≡ 50 + (50 * q + n) = omega arith in
         let w = read_of (window v k) in

@@ -1,7 +1,7 @@
 -- A string fed to a lock with which nothing waits: fewer than fifty bits wait and leave the lock as it was, fifty are judged and used
 -- up, and a bit that is passed over is as if it had not been heard.
 -- Assumes nothing.
-use Prim.Native.Nat.{ℕ, ◌+◌, ◌-◌, ◌≤◌, ◌<◌}
+use Prim.Native.Nat.{ℕ, ◌+◌, ◌≤◌, ◌<◌}
 use native.Mathlib.Nat.{add-zero, zero-add}
 use native.Mathlib.Omega.{arith}
 use mathlib.Core.Path.{◌≡◌, refl, sym, ap, ◌∙◌}

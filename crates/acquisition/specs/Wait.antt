@@ -14,7 +14,7 @@ use Rattle.acquisition.specs.Heard.{heard_from, bits_before_block, OnlyBlocks, O
 
 -- so many bits after the start of a block, locked and in step: what waits is what came since the last start
 pub record InStep (n : ℕ) (s : State) : Type 0 where
-  pub is_locked_lem : s.mode ≡ locked
+  pub is_locked : s.mode ≡ locked
   pub in_step : s.waiting ≡ n % 50
 
 -- lock has come with the last bit: nothing waits, and there is no time

@@ -1,4 +1,6 @@
 // What the text of an argument says: a number, an edition, a day, a time of day, an offset in half hours; or that it says none.
+#![tactic(auto)]
+
 ghost use Rattle.std.specs.Prelude.{◌≡◌};
 ghost use Rattle.arguments.specs.Editions.{edition_in};
 ghost use Rattle.arguments.specs.Numbers.{is_digit, number_of, Below};
@@ -15,14 +17,14 @@ pub enum Number {
 }
 
 // As it is written: that the calendar has it is not said.
-#[derive(Drop)]
+#[derive(Clone, Copy, Drop)]
 pub enum Day {
     Of { year: u16, month: u8, day: u8 },
     None,
 }
 
 // As it is written: that it is before midnight is not said.
-#[derive(Drop)]
+#[derive(Clone, Copy, Drop)]
 pub enum Time {
     Of { hour: u8, minute: u8 },
     None,

@@ -1,4 +1,6 @@
 // Numbers in bytes, the first highest: read and written.
+#![tactic(auto)]
+
 ghost use Rattle.std.specs.Prelude.{◌≡◌, length};
 ghost use Rattle.big_endian.specs.Bytes.{Told, kept_behind, number_at};
 ghost use Rattle.big_endian.specs.Digits.{digits, number};

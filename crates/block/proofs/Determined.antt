@@ -10,7 +10,7 @@ use Rattle.block.proofs.circuit.remainder.Reads as remainder
 use Rattle.block.proofs.circuit.turn.Reads as turn
 use Rattle.block.proofs.pack.Reads as pack
 use Rattle.block.proofs.read_block.Reads as read_block
-use Rattle.block.proofs.read_by.Reads as read_by_lem
+use Rattle.block.proofs.read_by.Reads as read_by
 use Rattle.block.proofs.read_packed.Reads as read_packed
 use Rattle.block.proofs.unpack.Reads as unpack
 use Rattle.block.proofs.write_block.Reads as write_block
@@ -22,7 +22,7 @@ turn_determined κs a x y s t p q = p ∙ sym q
 pub remainder_determined : Determined remainder.Post
 remainder_determined κs a x y s t p q = p ∙ sym q
 
-pub read_by_determined : Determined read_by_lem.Post
+pub read_by_determined : Determined read_by.Post
 read_by_determined κs a x y s t p q = p ∙ sym q
 
 pub read_packed_determined : Determined read_packed.Post

@@ -1,4 +1,6 @@
 // The block of fifty bits, as one number and in memory: reading, writing, and choosing between two aerials.
+#![tactic(auto)]
+
 pub mod circuit;
 mod memory;
 
@@ -13,7 +15,7 @@ use memory::store;
 use refusal::Refusal;
 
 // What reading a block finds. A wrong check word tells the remainder of all fifty bits with the first inverted, any other refusal 0.
-#[derive(Drop)]
+#[derive(Clone, Copy, Drop)]
 pub enum Read {
     Block { code: u8, word: u32 },
     Refused { refusal: Refusal, remainder: u16 },

@@ -18,7 +18,7 @@ use Rattle.calendar.specs.declared.Date.{Date}
 use Rattle.calendar.specs.declared.Dated.TheVariants as dated
 use Rattle.calendar.specs.Years.{first_year_of_span, last_first_year, last_year, first_civil_year, last_civil_year}
 use Rattle.calendar.specs.Dates.{weeks_in, usable_of, date_in, date_after, date_of, date_in_range, coded_year, record_at, record_of}
-use Rattle.calendar.proofs.Bounds.{Bounds, bounds, in_range}
+use Rattle.calendar.proofs.Bounds.{Bounds, bounds, date_in_range_lem}
 use Rattle.calendar.proofs.CodedYear.{coded_near}
 
 not_dated : (why : Refusal) (d : Date) → dated.Refused why ≡ dated.Given d → ⊥
@@ -66,7 +66,7 @@ module _ (edition : Edition) where
   unfolding record_of
   record_is d c =
       let year = civil d c in
-      rw (is_within 1900 d.year 2100 year.0 year.1, in_range d c.bounds, is_within 1901 (coded_year d) 2099 c.from c.to)
+      rw (is_within 1900 d.year 2100 year.0 year.1, date_in_range_lem d c.bounds, is_within 1901 (coded_year d) 2099 c.from c.to)
 
   pub record_given : (d : Date) (r : Record) → record_of edition d ≡ recorded.Given r → InCalendar d × (record_at edition d ≡ r)
   unfolding record_of

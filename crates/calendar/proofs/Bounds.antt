@@ -26,9 +26,9 @@ bounds d e =
     let b = (and-eq-true_iff _ _).0 a.1 in
     record { month = between 1 _ 12 a.0; day = between 1 _ _ b.0; time = time_bounds _ _ _ b.1 }
 
-pub in_range : (d : Date) → Bounds d → date_in_range d ≡ true
+pub date_in_range_lem : (d : Date) → Bounds d → date_in_range d ≡ true
 unfolding date_in_range
-in_range d b =
+date_in_range_lem d b =
     rw (
       is_within 1 d.month 12 b.month.0 b.month.1,
       is_within 1 d.day (month_length (leap_year d.year) d.month) b.day.0 b.day.1,

@@ -6,7 +6,7 @@ use mathlib.Core.Path.{◌≡◌, refl, ap, ◌∙◌}
 use Rattle.record.specs.declared.Edition.{Edition}
 use Rattle.record.specs.declared.Record.{Record}
 use Rattle.record.specs.declared.Recorded.TheVariants.{Given}
-use Rattle.record.proofs.Bounds.{Bounds, bounds, in_range}
+use Rattle.record.proofs.Bounds.{Bounds, bounds, in_range_lem}
 use Rattle.calendar.specs.LeapCodes.{says_leap, next_leap_code}
 use Rattle.calendar.specs.Weeks.{weeks_of}
 use Rattle.calendar.specs.Dates.{weeks_in}
@@ -27,13 +27,13 @@ module _ (edition : Edition) where
     at_time_lem hour minute h k =
         record {
           in_range =
-              in_range (at_time hour minute r)
+              in_range_lem (at_time hour minute r)
               (record {
                 leap = b.leap;
                 start_day_lem = b.start_day_lem;
                 week = b.week;
                 weekday = b.weekday;
-                time = record { to_hour = h; to_minute = k; offset_in_lem = b.time.offset_in_lem };
+                time = record { to_hour = h; to_minute = k; offset_in = b.time.offset_in };
               });
           in_year = u.in_year;
         }
@@ -50,13 +50,13 @@ module _ (edition : Edition) where
     at_midnight leap start week weekday l s w v h =
         record {
           in_range =
-              in_range (midnight leap start week weekday r.offset)
+              in_range_lem (midnight leap start week weekday r.offset)
               (record {
                 leap = l;
                 start_day_lem = s;
                 week = (w, omega (arith, weeks_range (says_leap edition leap) start));
                 weekday = v;
-                time = record { to_hour = omega arith; to_minute = omega arith; offset_in_lem = b.time.offset_in_lem };
+                time = record { to_hour = omega arith; to_minute = omega arith; offset_in = b.time.offset_in };
               });
           in_year = h;
         }

@@ -1,6 +1,6 @@
 -- Which dates have records: those of 1901 to 2099, the last day of 1900, which is a Monday, and the first three of 2100, which end a week.
 -- Assumes nothing.
-use Prim.Native.Nat.{ℕ, ◌+◌, ◌-◌, ◌≤◌, ◌<◌}
+use Prim.Native.Nat.{ℕ, ◌+◌, ◌≤◌, ◌<◌}
 use native.Mathlib.Omega.{arith}
 use mathlib.Core.Path.{◌≡◌, refl, sym, ap}
 use mathlib.Core.Bool.{Bool, true, false, cond}
@@ -22,7 +22,7 @@ use Rattle.calendar.specs.Dates.{date_in_range, day_of_date, coded_year, record_
 use Rattle.calendar.proofs.Years.{year_rises}
 use Rattle.calendar.proofs.Weeks.{one_rises}
 use Rattle.calendar.proofs.Around.{later, ordered}
-use Rattle.calendar.proofs.Bounds.{Bounds, bounds, in_range, year_day, day_bounds, month_again}
+use Rattle.calendar.proofs.Bounds.{Bounds, bounds, date_in_range_lem, year_day, day_bounds, month_again}
 use Rattle.calendar.proofs.CodedYear.{coded_holds}
 use Rattle.calendar.proofs.Answers.{InCalendar, civil, record_is, record_given}
 
@@ -122,7 +122,7 @@ module _ (edition : Edition) where
       let c = (record_given edition d r e).0 in
       let year = civil d c in
       let day = day_from_coded d year.0 c.bounds c in (
-        in_range d c.bounds,
+        date_in_range_lem d c.bounds,
         ⊎_elim
             (λ h. inr (inl (is_last d c.bounds (omega arith) day.0)))
             (λ h.

@@ -36,7 +36,7 @@ module _ (d : Date) (a : first_civil_year ≤ d.year) (b : Bounds d) where
   at year month day after = record { after = after; hour = refl; minute = refl; offset = refl }
 
   midnight_in : Time 0 0 d.offset
-  midnight_in = record { to_hour = omega arith; to_minute = omega arith; offset_in_lem = b.time.offset_in_lem }
+  midnight_in = record { to_hour = omega arith; to_minute = omega arith; offset_in = b.time.offset_in }
 
   month_whole : (i : ℕ) → suc (d.month - 1) ≡ i → sum_of i (months L) ≡ sum_of (d.month - 1) (months L) + month_length L d.month
   month_whole i e = ap (λ (i : ℕ). sum_of i (months L)) (sym e) ∙ sum_suc (d.month - 1) (months L)
@@ -84,7 +84,7 @@ module _ (d : Date) (a : first_civil_year ≤ d.year) (b : Bounds d) where
   on_day hour minute h k =
       record {
         from = a;
-        bounds = record { month = b.month; day = b.day; time = record { to_hour = h; to_minute = k; offset_in_lem = b.time.offset_in_lem } };
+        bounds = record { month = b.month; day = b.day; time = record { to_hour = h; to_minute = k; offset_in = b.time.offset_in } };
         day = omega arith;
       }
 

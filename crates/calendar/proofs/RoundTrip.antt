@@ -6,7 +6,7 @@ use mathlib.Core.Path.{◌≡◌, refl, ap, ◌∙◌}
 use Rattle.record.specs.declared.Edition.{Edition}
 use Rattle.record.specs.declared.Record.{Record}
 use Rattle.record.specs.declared.Recorded.TheVariants as recorded
-use Rattle.record.proofs.Bounds.{bounds as record-bounds, in_range}
+use Rattle.record.proofs.Bounds.{bounds as record-bounds, in_range_lem}
 use Rattle.calendar.specs.declared.Date.{Date}
 use Rattle.calendar.specs.declared.Dated.TheVariants as dated
 use Rattle.calendar.specs.LeapCodes.{leap_code}
@@ -50,7 +50,7 @@ module _ (edition : Edition) where
         let weeks = weeks_range (leap_year y) (start_day_of y) in
         record {
           in_range =
-              in_range (record_at edition d)
+              in_range_lem (record_at edition d)
               (record {
                 leap = code_range edition y;
                 start_day_lem = start_range y;

@@ -6,7 +6,7 @@ use mathlib.Core.Path.{◌≡◌, sym, ap, ◌∙◌}
 use Rattle.record.specs.declared.Edition.{Edition}
 use Rattle.record.specs.declared.Record.{Record}
 use Rattle.record.specs.declared.Recorded.TheVariants.{Given}
-use Rattle.record.proofs.Bounds.{bounds, in_range}
+use Rattle.record.proofs.Bounds.{bounds, in_range_lem}
 use Rattle.calendar.specs.declared.Date.{Date}
 use Rattle.calendar.specs.declared.Dated.TheVariants as dated
 use Rattle.calendar.specs.Years.{span, year_from}
@@ -40,7 +40,7 @@ module _ (edition : Edition) where
       let b = bounds r u.in_range in
       record {
         in_range =
-            in_range (on_weekday weekday r)
+            in_range_lem (on_weekday weekday r)
             (record { leap = b.leap; start_day_lem = b.start_day_lem; week = b.week; weekday = (h, k); time = b.time });
         in_year = u.in_year;
       }

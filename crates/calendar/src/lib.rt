@@ -1,4 +1,6 @@
 // Dates of records and records of dates (document 01, "The calendar"), under either edition.
+#![tactic(auto)]
+
 ghost use Rattle.std.specs.Prelude.{◌≡◌, true, ◌≤◌};
 ghost use Rattle.record.specs.declared.Recorded.TheVariants.{Given};
 ghost use Rattle.record.specs.Ranges.{within, in_range};
@@ -23,7 +25,7 @@ use year::{is_leap, new_year, start_day_of, year_of};
 
 // A minute in UTC. The offset is carried and never applied.
 #[repr(C)]
-#[derive(Drop)]
+#[derive(Clone, Copy, Drop)]
 pub struct Date {
     pub year: u16,
     pub month: u8,

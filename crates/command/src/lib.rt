@@ -1,47 +1,50 @@
 // The argument of a program that takes an edition and nothing else: [EDITION].
+#![tactic(auto)]
+
 ghost use Rattle.command.specs.Asked.{Asked};
 
 use arguments::edition_of;
+use console::{argument, argument_count};
 use record::{Edition, Named};
 use refusal::Refusal;
+use std::env::Env;
 
 // An argument of more than four characters is read as empty, so that a year is written in one way only.
-fn edition_in(i: usize) -> Named
+fn edition_in(rt: &impl Env, i: usize) -> Named
     ensures { Asked result }
 {
     let mut text = [0u8; 4];
-    let n = os::arg(i, &mut text);
+    let n = argument(rt, i, &mut text);
     edition_of(&text[..n])
 }
 
-fn too_many(program: &[u8]) {
-    io::write_all(2, program);
-    io::write_all(2, b": refused with 6: expected [EDITION] alone, as in: ");
-    io::write_all(2, program);
-    io::write_all(2, b" 1982\n");
+// Where standard error takes nothing there is nowhere else to tell it.
+fn too_many(rt: &impl Eprint, program: &str) {
+    let _ = eprintln!(rt;
+        "{program}: refused with 6: expected [EDITION] alone, as in: {program} 1982"
+    );
 }
 
-fn no_edition(program: &[u8]) {
-    io::write_all(2, program);
-    io::write_all(2, b": EDITION: refused with 6: expected 1984 or 1982\n");
+fn no_edition(rt: &impl Eprint, program: &str) {
+    let _ = eprintln!(rt; "{program}: EDITION: refused with 6: expected 1984 or 1982");
 }
 
 // The edition that a program is asked for, that of 1984 where none is named. That there is none is told behind the program's name.
-pub fn asked(program: &[u8]) -> Named
+pub fn asked(rt: &(impl Env + Eprint), program: &str) -> Named
     ensures { Asked result }
 {
-    let count = os::arg_count();
+    let count = argument_count(rt);
     if count < 2 {
         return Named::Given(Edition::Of1984);
     }
     if 2 < count {
-        too_many(program);
+        too_many(rt, program);
         return Named::Refused(Refusal::OutOfRange);
     }
-    let named = edition_in(1);
+    let named = edition_in(rt, 1);
     match named {
         Named::Given(_) => {}
-        Named::Refused(_) => no_edition(program),
+        Named::Refused(_) => no_edition(rt, program),
     }
     named
 }

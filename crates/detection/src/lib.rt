@@ -1,1 +1,2 @@
 // No code: what the block refuses, stated in specs/ and shown in proofs/ about the definitions that `block` is proved against.
+#![tactic(auto)]

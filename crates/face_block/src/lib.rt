@@ -1,5 +1,7 @@
 // The block's calls as C sees them: flat answers, numbered as document 01 numbers things. The version, which belongs to no floor,
 // stands here on the lowest.
+#![tactic(auto)]
+
 ghost use Rattle.std.specs.Prelude.{◌≡◌, length};
 ghost use Rattle.block.specs.Choose.{choice_of, chosen, number_told, remainder_told};
 ghost use Rattle.block.specs.Packed.{read_packed, write_packed, choose_packed, pack_of, unpack_of, unpacked_of};

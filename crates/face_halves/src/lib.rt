@@ -1,4 +1,6 @@
 // The radio board's call as C sees it: a flat answer, numbered as document 02 numbers things.
+#![tactic(auto)]
+
 ghost use Rattle.std.specs.Prelude.{◌≡◌, length};
 ghost use Rattle.face_halves.specs.Face.{decided_face};
 ghost use Rattle.face_halves.specs.Under.{polarity_of, decided_under, written_under};
@@ -42,13 +44,7 @@ fn polarity_of(number: u8) -> Polarity
     Polarity::Exchanged
 }
 
-#[unsafe(no_mangle)]
-pub extern "C" fn lw_decide(
-    readings: &[f32],
-    margin: f32,
-    polarity: u8,
-    bits: &mut [u8],
-) -> DecidedAnswer
+pub fn lw_decide(readings: &[f32], margin: f32, polarity: u8, bits: &mut [u8]) -> DecidedAnswer
     ensures { (result ≡ decided_face (decided_under polarity readings.now margin (length bits.old))) × (bits.new ≡ written_under polarity readings.now margin bits.old) }
 {
     if 1 < polarity {

@@ -1,4 +1,6 @@
 // The calls for remainders of long strings as C sees them: flat answers, numbered as documents 01 and 02 number things.
+#![tactic(auto)]
+
 ghost use Rattle.std.specs.Prelude.{◌≡◌};
 ghost use Rattle.face_joining.specs.Face.{remainder_face};
 ghost use Rattle.joining.specs.Joining.{remainder_of, join_of};

@@ -1,5 +1,7 @@
 // The journal's calls as C sees them: flat answers, numbered as documents 01 and 02 number things. A report that is lent to be
 // changed is nineteen numbers in a row, which its fields are.
+#![tactic(auto)]
+
 mod numbers;
 
 ghost use Rattle.std.specs.Prelude.{◌≡◌};

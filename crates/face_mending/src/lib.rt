@@ -1,4 +1,6 @@
 // The call that mends logged blocks as C sees it: a flat answer, numbered as documents 01 and 02 number things.
+#![tactic(auto)]
+
 ghost use Rattle.face_mending.specs.Face.{MendsFace};
 
 use mending::Mended;

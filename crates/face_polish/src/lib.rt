@@ -1,4 +1,6 @@
 // The Polish frame's calls as C sees them: flat answers, numbered as document 01 numbers things.
+#![tactic(auto)]
+
 ghost use Rattle.std.specs.Prelude.{◌≡◌, length};
 ghost use Rattle.face_polish.specs.Face.{PolishReads};
 ghost use Rattle.polish.specs.Write.{refusal_of, write_of, written_of};

@@ -1,3 +1,1 @@
-pub mod Lending
-pub mod Rows
 pub mod Determined

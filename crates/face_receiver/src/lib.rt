@@ -1,5 +1,7 @@
 // The receiver's calls as C sees them: the edition comes first, the state is lent and changed where it stands, and its counts are
 // handed back.
+#![tactic(auto)]
+
 ghost use Rattle.std.specs.Prelude.{◌≡◌};
 ghost use Rattle.face_receiver.specs.Face.{told_face, standing_face};
 ghost use Rattle.face_receiver.specs.Under.{run_under, fed_under, run_packed_under, fed_packed_under, watched_under, why_under};
@@ -15,8 +17,7 @@ use refusal::Refusal;
 use watch::{Standing, Watch, Watched};
 
 // Hunting, with nothing waiting and no time.
-#[unsafe(no_mangle)]
-pub extern "C" fn lw_fresh() -> State
+pub fn lw_fresh() -> State
     ensures { result ≡ fresh_of }
 {
     receiver::fresh()
@@ -50,8 +51,7 @@ fn run_under(edition: u16, state: State, bits: &[u8]) -> Ran
 }
 
 // One bit into the lent state, changed where it stands.
-#[unsafe(no_mangle)]
-pub extern "C" fn lw_feed(edition: u16, state: &mut State, bit: u8) -> Counts
+pub fn lw_feed(edition: u16, state: &mut State, bit: u8) -> Counts
     ensures { (result ≡ (fed_under edition state.old bit).counts) × (state.new ≡ (fed_under edition state.old bit).state) }
 {
     let fed = feed_under(edition, *state, bit);
@@ -60,8 +60,7 @@ pub extern "C" fn lw_feed(edition: u16, state: &mut State, bit: u8) -> Counts
 }
 
 // A run of bits into the lent state.
-#[unsafe(no_mangle)]
-pub extern "C" fn lw_run(edition: u16, state: &mut State, bits: &[u8]) -> Counts
+pub fn lw_run(edition: u16, state: &mut State, bits: &[u8]) -> Counts
     ensures { (result ≡ (run_under edition state.old bits.now).counts) × (state.new ≡ (run_under edition state.old bits.now).state) }
 {
     let ran = run_under(edition, *state, bits);
@@ -71,8 +70,7 @@ pub extern "C" fn lw_run(edition: u16, state: &mut State, bits: &[u8]) -> Counts
 
 // ---- with the waiting bits as one number
 
-#[unsafe(no_mangle)]
-pub extern "C" fn lw_fresh_packed() -> PackedState
+pub fn lw_fresh_packed() -> PackedState
     ensures { result ≡ fresh_packed }
 {
     receiver::fresh_packed()
@@ -103,8 +101,7 @@ fn run_packed_under(edition: u16, state: PackedState, bits: &[u8]) -> PackedRan
     }
 }
 
-#[unsafe(no_mangle)]
-pub extern "C" fn lw_feed_packed(edition: u16, state: &mut PackedState, bit: u8) -> Counts
+pub fn lw_feed_packed(edition: u16, state: &mut PackedState, bit: u8) -> Counts
     ensures { (result ≡ (fed_packed_under edition state.old bit).counts) × (state.new ≡ (fed_packed_under edition state.old bit).state) }
 {
     let fed = feed_packed_under(edition, *state, bit);
@@ -112,8 +109,7 @@ pub extern "C" fn lw_feed_packed(edition: u16, state: &mut PackedState, bit: u8)
     fed.counts
 }
 
-#[unsafe(no_mangle)]
-pub extern "C" fn lw_run_packed(edition: u16, state: &mut PackedState, bits: &[u8]) -> Counts
+pub fn lw_run_packed(edition: u16, state: &mut PackedState, bits: &[u8]) -> Counts
     ensures { (result ≡ (run_packed_under edition state.old bits.now).counts) × (state.new ≡ (run_packed_under edition state.old bits.now).state) }
 {
     let after = run_packed_under(edition, *state, bits);
@@ -132,8 +128,7 @@ pub struct StandingAnswer {
     pub bit: u64,
 }
 
-#[unsafe(no_mangle)]
-pub extern "C" fn lw_watch_fresh() -> Watch
+pub fn lw_watch_fresh() -> Watch
     ensures { result ≡ fresh_watch }
 {
     watch::fresh()
@@ -156,8 +151,7 @@ fn watch_under(edition: u16, watch: Watch, bits: &[u8]) -> Watched
 }
 
 // A run of bits into the lent watch.
-#[unsafe(no_mangle)]
-pub extern "C" fn lw_watch_run(edition: u16, watch: &mut Watch, bits: &[u8]) -> Counts
+pub fn lw_watch_run(edition: u16, watch: &mut Watch, bits: &[u8]) -> Counts
     ensures { (result ≡ (watched_under edition watch.old bits.now).counts) × (watch.new ≡ (watched_under edition watch.old bits.now).watch) }
 {
     let watched = watch_under(edition, *watch, bits);
@@ -195,8 +189,7 @@ fn standing_answer(standing: Standing) -> StandingAnswer
 }
 
 // Why a dial is blank: how the time of this watch stands.
-#[unsafe(no_mangle)]
-pub extern "C" fn lw_why(edition: u16, watch: Watch) -> StandingAnswer
+pub fn lw_why(edition: u16, watch: Watch) -> StandingAnswer
     ensures { result ≡ standing_face (why_under edition watch) }
 {
     match record::edition_of(edition) {

@@ -1,5 +1,7 @@
 // The calls of records and dates as C sees them: the edition comes first, and the answers are flat, numbered as document 01 numbers
 // things.
+#![tactic(auto)]
+
 ghost use Rattle.std.specs.Prelude.{◌≡◌};
 ghost use Rattle.calendar.specs.Dates.{date_of, record_of};
 ghost use Rattle.calendar.specs.NextMinute.{next_minute_of};

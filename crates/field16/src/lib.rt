@@ -1,4 +1,6 @@
 // The field of sixteen elements, which the symbols of the Polish frame are. Of a larger number the lowest four bits count.
+#![tactic(auto)]
+
 ghost use Rattle.std.specs.Prelude.{◌≡◌, ◌<◌};
 ghost use Rattle.field16.specs.Field as field;
 

@@ -1,4 +1,6 @@
 // Half-bit readings of the radio board become bits (document 02, No. 1).
+#![tactic(auto)]
+
 mod pairs;
 mod readings;
 
@@ -12,14 +14,14 @@ use readings::{all_in_range, is_margin};
 use refusal::Refusal;
 
 // Two readings that belong together, in degrees.
-#[derive(Drop)]
+#[derive(Clone, Copy)]
 pub struct Pair {
     pub first: f32,
     pub second: f32,
 }
 
 // Whether 0 and 1 are exchanged.
-#[derive(Drop)]
+#[derive(Clone, Copy)]
 pub enum Polarity {
     AsItStands,
     Exchanged,

@@ -13,7 +13,7 @@ use lib.Dec.{eqb}
 use lib.Seq.{take-suc-set, take_at, drop-set-lt, drop-drop, get_or-take, get_or-drop}
 use Rattle.block.specs.Bits.{Bits}
 use Rattle.block.proofs.Strings.{next}
-use Rattle.io.specs.Counts.{IsPrefixLen}
+use Rattle.console.specs.Counts.{IsPrefixLen}
 use Rattle.input.specs.declared.Picked.{Picked}
 use Rattle.input.specs.Characters.{nought, one, newline, Meant, before, meant, Picks}
 

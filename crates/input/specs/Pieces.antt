@@ -2,7 +2,7 @@
 -- Assumes nothing.
 use Rattle.std.specs.Prelude.{ℕ, false, List, ◌≡◌, length, take}
 use Rattle.block.specs.Bits.{Bits}
-use Rattle.io.specs.Counts.{IsPrefixLen}
+use Rattle.console.specs.Counts.{IsPrefixLen}
 use Rattle.input.specs.declared.Piece.{Piece}
 
 -- whatever was read: the buffer is as long as before, so many of its places at the front hold bits, and where reading failed none

@@ -1,7 +1,12 @@
 // The input of a program: characters from standard input, turned into bits.
+#![tactic(auto)]
+
 ghost use Rattle.std.specs.Prelude.{◌≤◌, ◌≡◌, length, take};
 ghost use Rattle.input.specs.Characters.{Picks};
 ghost use Rattle.input.specs.Pieces.{Reads};
+
+use console::fail;
+use std::io::{self, ErrorKind, Read};
 
 // How many bits were picked, and whether the input goes on.
 #[derive(Drop)]
@@ -44,16 +49,16 @@ fn pick_bits(buffer: &mut [u8], n: usize) -> Picked
 }
 
 // Nothing was read: the input has ended, or a read failed. An interrupted read is taken up again; any other failure is told.
-fn unread(got: isize, failure: &[u8]) -> Piece
+fn unread(rt: &impl Eprint, failed: Option<io::Error>, failure: &str) -> Piece
     ensures { result.bits ≡ 0 }
 {
     let mut more = false;
     let mut sound = true;
-    if got < 0 {
-        if os::errno() == libc::EINTR {
+    if let Some(error) = failed {
+        if error.kind() == ErrorKind::Interrupted {
             more = true;
         } else {
-            os::fail(failure);
+            fail(rt, failure, error);
             sound = false;
         }
     }
@@ -66,14 +71,16 @@ fn unread(got: isize, failure: &[u8]) -> Piece
 
 // Reads one piece of the input and leaves its bits at the front of the buffer. A failure is told on standard error, behind the
 // words that name what failed.
-pub fn read_bits(buffer: &mut [u8], failure: &[u8]) -> Piece
+pub fn read_bits(rt: &impl Eprint, input: &mut impl Read, buffer: &mut [u8], failure: &str) -> Piece
     ensures { Reads buffer.old result buffer.new }
 {
-    let got = libc::read(0, buffer);
-    if got < 1 {
-        return unread(got, failure);
+    let n = match input.read(buffer) {
+        Ok(n) => n,
+        Err(error) => return unread(rt, Some(error), failure),
+    };
+    if n == 0 {
+        return unread(rt, None, failure);
     }
-    let n = io::count(got, buffer);
     let picked = pick_bits(buffer, n);
     Piece {
         bits: picked.bits,

@@ -1,4 +1,6 @@
 // The plain remainder of a long string of bits, and that of two strings joined, from the remainder of each.
+#![tactic(auto)]
+
 ghost use Rattle.std.specs.Prelude.{◌≡◌, ◌<◌};
 ghost use Rattle.joining.specs.Joining.{times, power_of_x, remainder_of, join_of};
 

@@ -1,4 +1,6 @@
 // The month's journal: entries of sixteen bytes, and a trailer that points back to those that are still wanted (document 02, No. 12).
+#![tactic(auto)]
+
 mod entries;
 
 ghost use Rattle.std.specs.Prelude.{◌≡◌, ◌+◌, ◌*◌, ◌≤◌, length, drop};

@@ -85,7 +85,7 @@ module _ (edition : Edition) where
   first_block r s u i =
       ap (λ (l : List ℕ). run_from edition l no_blocks 0 s) (sym (append-nil (time_block r)))
       ∙ ap (λ (k : ℕ). run_from edition (time_block r ++ []) no_blocks 0 (state_of (lock_in s) k s.bits)) i.none_waits
-      ∙ time_feeds r s.bits [] no_blocks (lock_in s) u i.places i.is_locked_lem
+      ∙ time_feeds r s.bits [] no_blocks (lock_in s) u i.places i.is_locked
       ∙ rw (from_none (lock_in s).time r i.holds_none) (ap (λ (b : Blocks). ended 0 b 0 (holding 0 candidate r 0)) (none_plus (count_read (read_of (time_block r)))))
 
   -- one of the others ages the time

@@ -39,7 +39,7 @@ in_word Of1982 = omega arith
 module _ (edition : Edition) where
   pub idle : (bad : ℕ) → bad ≤ 3 → Idle edition (state_of (lock_of locked 0 bad no_time) 0 (zeros 50))
   unfolding proper_of bits_proper lock_proper time_proper is_no_time is_zero_record
-  idle bad h = record { places = refl; proper = rw (le-leb bad 3 h); is_locked_lem = refl; none_waits = refl; holds_none = refl }
+  idle bad h = record { places = refl; proper = rw (le-leb bad 3 h); is_locked = refl; none_waits = refl; holds_none = refl }
 
   abbrev sent : List ℕ
   sent = block_of 0 (filler edition)

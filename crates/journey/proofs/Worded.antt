@@ -30,7 +30,7 @@ module _ (r : Record) (h : in_range r ≡ true) where
 
   pub word_fits : word_of r < 2 ^ 32
   unfolding word_of
-  word_fits = let b : Bounds r = bounds r h in omega (arith, six_fits r.offset b.time.offset_in_lem)
+  word_fits = let b : Bounds r = bounds r h in omega (arith, six_fits r.offset b.time.offset_in)
 
 module _ (edition : Edition) where
   pub date_usable : (d : Date) (r : Record) → record_of edition d ≡ recorded.Given r → Usable edition r

@@ -101,7 +101,7 @@ DamagedIsOther = (edition : Edition) (s e : List ℕ) → Good s → Pattern e �
 pub record Idle (edition : Edition) (s : State) : Type 0 where
   pub places : length s.bits ≡ 50
   pub proper : proper_of edition s ≡ true
-  pub is_locked_lem : s.mode ≡ locked
+  pub is_locked : s.mode ≡ locked
   pub none_waits : s.waiting ≡ 0
   pub holds_none : s.time ≡ none
 

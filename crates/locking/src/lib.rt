@@ -1,4 +1,6 @@
 // Hunting, trying, locked: what a judged window does to the lock, and when a lock is proper.
+#![tactic(auto)]
+
 ghost use Rattle.std.specs.Prelude.{◌≡◌};
 ghost use Rattle.locking.specs.Locks.{lock_of, fresh_lock, hunting_proper, trying_proper, locked_proper, lock_proper};
 ghost use Rattle.locking.specs.Modes.{good_block, bad_block, passed_over, hunted, tried, held_on, judged_by};
@@ -8,7 +10,7 @@ use record::Edition;
 use timekeeping::{Time, is_no_time, no_time};
 
 // A state without its bits.
-#[derive(Drop)]
+#[derive(Clone, Copy, Drop)]
 pub struct Lock {
     pub mode: u8,
     pub good: u8,

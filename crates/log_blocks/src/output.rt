@@ -3,6 +3,7 @@ ghost use Rattle.std.specs.Prelude.{◌≡◌};
 ghost use Rattle.journal.specs.Entries.{pair_bytes};
 
 use big_endian::store;
+use console::{fail, put};
 
 fn pair_of(first: u64, second: u64) -> [u8; 16]
     ensures { result ≡ pair_bytes first second }
@@ -14,11 +15,13 @@ fn pair_of(first: u64, second: u64) -> [u8; 16]
 }
 
 // Two numbers on standard output. Answers whether they were written; where not, it has said why on standard error.
-pub fn put_pair(first: u64, second: u64) -> bool {
+pub fn put_pair(rt: &(impl Print + Eprint), first: u64, second: u64) -> bool {
     let bytes = pair_of(first, second);
-    if io::write_all(1, &bytes) {
-        return true;
+    match put(rt, &bytes) {
+        Ok(()) => true,
+        Err(error) => {
+            fail(rt, "log_blocks: standard output", error);
+            false
+        }
     }
-    os::fail(b"log_blocks: standard output");
-    false
 }

@@ -14,8 +14,8 @@ use Rattle.block.specs.Block.{Good}
 use Rattle.block.specs.Packed.{refusal_packed}
 use Rattle.block.proofs.Inverted.{good_inverted}
 use Rattle.block.proofs.Strings.{bits_append, bits_xors, bits_zeros, length_xors, xors_cancel}
-use Rattle.detection.specs.Damage.{Changed, weight, burst}
-use Rattle.detection.proofs.Places.{changed_before, changed_lt, changed_weight, only, unchanged}
+use Rattle.detection.specs.Damage.{Changed, weight}
+use Rattle.detection.proofs.Places.{changed_before, changed_lt, changed_weight, unchanged}
 use Rattle.mending.specs.Changes.{Within, Burst, Makes, First, six_from}
 use Rattle.mending.specs.Laws.{changes_of, HandedBack, BlocksHandedBack, NoneNear}
 use Rattle.mending.specs.Mending.{refusal_in, place_in, pattern_in, Mends, refused, good, bad, MendsBad, one, none, several}

@@ -11,7 +11,6 @@ use Rattle.block.specs.Division.{remainder}
 use Rattle.block.proofs.Strings.{bits_of_val}
 use Rattle.block.proofs.Zeros.{up, up_zero}
 use Rattle.mending.specs.Changes.{Burst, Makes}
-use Rattle.mending.specs.Mending.{good}
 use Rattle.mending.proofs.Bursts.{six_left, same_places}
 use Rattle.mending.proofs.CutOut.{burst_six, some_value}
 use Rattle.mending.proofs.Goodness.{made_good}

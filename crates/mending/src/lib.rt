@@ -1,4 +1,6 @@
 // A burst put right: the one change within six neighbouring places that makes a logged block good.
+#![tactic(auto)]
+
 mod search;
 
 ghost use Rattle.std.specs.Prelude.{◌<◌, ◌^◌};

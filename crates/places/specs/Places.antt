@@ -56,7 +56,7 @@ pub record Places : Type 0 where
   -- a 1, 48 zeros, a 1: 4
   pub last_changed : block.refusal_in (block.read_of (1 ∷ (zeros 48 ++ (1 ∷ [])))) ≡ 4
   -- word 0x4C160000: 1 January 1986, 00:00, offset 0
-  pub new_year_lem : date_of_word Of1984 0x4C160000 ≡ dated.Given (midnight 1986 1 1)
+  pub new_year : date_of_word Of1984 0x4C160000 ≡ dated.Given (midnight 1986 1 1)
   -- word 0x4C16C882: the same day 12:34, offset 2
   pub ahead : date_of_word Of1984 0x4C16C882 ≡ dated.Given (new_date 1986 1 1 12 34 (pos 2))
   -- word 0x4C16C8BE: offset -2
@@ -68,7 +68,7 @@ pub record Places : Type 0 where
   -- 30 December 2012: week 52, weekday 7
   pub last_sunday : record_of Of1984 (midnight 2012 12 30) ≡ recorded.Given (fields 0 7 52 7 0 0 (pos 0))
   -- 31 December 2012: week 1, weekday 1 of 2013, start day 2, leap code 1
-  pub first_monday_lem : record_of Of1984 (midnight 2012 12 31) ≡ recorded.Given (fields 1 2 1 1 0 0 (pos 0))
+  pub first_monday : record_of Of1984 (midnight 2012 12 31) ≡ recorded.Given (fields 1 2 1 1 0 0 (pos 0))
   -- the minute after 23:59 in week 53, weekday 3 of 1986: 7, since that year has 52 weeks
   pub no_week_53 : (given_record (next_minute_of Of1984 (fields 2 3 53 3 23 59 (pos 0)))).0 ≡ 7
   -- 1 January 1982: week 53, weekday 5 of 1981, start day 4, leap code 1

@@ -1,4 +1,6 @@
 // The Polish 225 kHz frame of twelve bytes, read and written (document 02, No. 10; source document 002).
+#![tactic(auto)]
+
 mod crc;
 
 ghost use Rattle.std.specs.Prelude.{true, ◌≡◌, ◌*◌, ◌<◌, ◌^◌, length};
@@ -13,7 +15,7 @@ use symbols::Mended;
 
 // What a frame tells.
 #[repr(C)]
-#[derive(Drop)]
+#[derive(Clone, Copy)]
 pub struct Time {
     // Three-second periods since 1 January 2000.
     pub periods: u32,

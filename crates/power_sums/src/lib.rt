@@ -1,5 +1,7 @@
 // The power sums of a word, its values at a^1 to a^6, and what is left of them when a place is taken away. A place is told by its power of a, so by
 // an element: wherever a symbol stands alone, each power sum is the place times the one before.
+#![tactic(auto)]
+
 ghost use Rattle.std.specs.Prelude.{◌≡◌};
 ghost use Rattle.big_endian.specs.Digits.{digits};
 ghost use Rattle.field16.specs.Words.{at};

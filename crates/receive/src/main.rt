@@ -1,4 +1,6 @@
 // The receiver program: characters 0 and 1 from standard input are bits; it says when lock comes and goes, and what it counted.
+#![tactic(auto)]
+
 ghost use Rattle.std.specs.Prelude.{◌≡◌, ◌≤◌, true, length};
 ghost use Rattle.block.specs.Bits.{Bits};
 ghost use Rattle.receiver.specs.Packed.{packed_proper};
@@ -9,6 +11,7 @@ mod totals;
 
 use input::{Piece, read_bits};
 use report::{say, say_end};
+use std::io::Read;
 use totals::{Kept, hear};
 
 // What is kept after some of the input, whether there may be more of it, and whether all reading and writing so far succeeded.
@@ -33,7 +36,7 @@ fn fresh() -> Kept
 }
 
 // Feeds all the bits of a piece and tells where lock came or went. After a line that could not be written nothing more is told.
-fn feed_all(start: Kept, bits: &[u8], piece: Piece) -> Progress
+fn feed_all(rt: &(impl Print + Eprint), start: Kept, bits: &[u8], piece: Piece) -> Progress
     requires { (packed_proper edition start.state ≡ true) × Bits bits.now × (length bits.now ≤ 65536) }
     ensures { result.kept ≡ kept_after start bits.now }
 {
@@ -44,7 +47,7 @@ fn feed_all(start: Kept, bits: &[u8], piece: Piece) -> Progress
         let heard = hear(kept, &bits[i..]);
         if sound {
             let said = heard.said;
-            sound = say(said);
+            sound = say(rt, said);
         }
         let next = heard.kept;
         kept = next;
@@ -58,19 +61,20 @@ fn feed_all(start: Kept, bits: &[u8], piece: Piece) -> Progress
 }
 
 // Reads one large piece of the input and feeds its bits.
-fn read_piece(start: Kept) -> Progress
+fn read_piece(rt: &(impl Print + Eprint), input: &mut impl Read, start: Kept) -> Progress
     requires { packed_proper edition start.state ≡ true }
     ensures { FedOn start result.kept }
 {
-    let mut buffer = io::large_buffer();
-    let piece = read_bits(&mut buffer, b"receive: standard input");
+    let mut buffer = [0u8; 65536];
+    let piece = read_bits(rt, input, &mut buffer, "receive: standard input");
     let n = piece.bits;
-    feed_all(start, &buffer[..n], piece)
+    feed_all(rt, start, &buffer[..n], piece)
 }
 
 // Piece after piece, until the input ends or reading or writing fails. The last line says that the input ended, so after a
 // failure it is left out.
-fn main() {
+fn main(rt: HostRuntime) {
+    let mut input = rt.stdin();
     let kept = fresh();
     let mut progress = Progress {
         kept,
@@ -80,13 +84,14 @@ fn main() {
     let mut turns = u64::MAX;
     while 0 < turns && progress.more && progress.sound {
         let kept = progress.kept;
-        progress = read_piece(kept);
+        progress = read_piece(&rt, &mut input, kept);
         turns -= 1;
     }
     if progress.sound {
         let kept = progress.kept;
         let state = kept.state;
         say_end(
+            &rt,
             kept.fed,
             kept.good,
             kept.bad,

@@ -1,59 +1,70 @@
 // The lines that are printed. Each function answers whether all of it was written; where not, it has said why on standard error.
 use crate::totals::Said;
+use console::{fail, put, put_number};
+use std::io;
 
-fn written(done: bool) -> bool {
-    if done {
-        return true;
+fn written(rt: &impl Eprint, done: io::Result<()>) -> bool {
+    match done {
+        Ok(()) => true,
+        Err(error) => {
+            fail(rt, "receive: standard output", error);
+            false
+        }
     }
-    os::fail(b"receive: standard output");
-    false
 }
 
 // A text with a number behind it.
-fn number(text: &[u8], n: u64) -> bool {
-    if written(io::write_all(1, text)) {
-        written(io::print_decimal(1, n))
+fn number(rt: &(impl Print + Eprint), text: &str, n: u64) -> bool {
+    if written(rt, put(rt, text.as_bytes())) {
+        written(rt, put_number(rt, n))
     } else {
         false
     }
 }
 
-fn end_of_line() -> bool {
-    written(io::write_all(1, b"\n"))
+fn end_of_line(rt: &(impl Print + Eprint)) -> bool {
+    written(rt, put(rt, b"\n"))
 }
 
-fn line(word: &[u8], n: u64) -> bool {
-    if number(word, n) {
-        end_of_line()
+fn line(rt: &(impl Print + Eprint), word: &str, n: u64) -> bool {
+    if number(rt, word, n) {
+        end_of_line(rt)
     } else {
         false
     }
 }
 
 // The line about lock, if there is something to say.
-pub fn say(said: Said) -> bool {
+pub fn say(rt: &(impl Print + Eprint), said: Said) -> bool {
     match said {
         Said::Nothing => true,
-        Said::Came(n) => line(b"LOCK ", n),
-        Said::Went(n) => line(b"LOST ", n),
+        Said::Came(n) => line(rt, "LOCK ", n),
+        Said::Went(n) => line(rt, "LOST ", n),
     }
 }
 
-pub fn say_end(fed: u64, good: u64, bad: u64, passed: u64, waiting: u64) -> bool {
-    if !number(b"END ", fed) {
+pub fn say_end(
+    rt: &(impl Print + Eprint),
+    fed: u64,
+    good: u64,
+    bad: u64,
+    passed: u64,
+    waiting: u64,
+) -> bool {
+    if !number(rt, "END ", fed) {
         return false;
     }
-    if !number(b" ", good) {
+    if !number(rt, " ", good) {
         return false;
     }
-    if !number(b" ", bad) {
+    if !number(rt, " ", bad) {
         return false;
     }
-    if !number(b" ", passed) {
+    if !number(rt, " ", passed) {
         return false;
     }
-    if !number(b" ", waiting) {
+    if !number(rt, " ", waiting) {
         return false;
     }
-    end_of_line()
+    end_of_line(rt)
 }

@@ -3,12 +3,12 @@
 use mathlib.Core.Path.{sym, ◌∙◌}
 use Rattle.refusal.proofs.Determined.{Determined}
 use Rattle.receiver.proofs.fresh.Reads as fresh
-use Rattle.receiver.proofs.fresh_packed.Reads as fresh_packed_lem
-use Rattle.receiver.proofs.is_proper.Reads as is_proper_lem
+use Rattle.receiver.proofs.fresh_packed.Reads as fresh_packed
+use Rattle.receiver.proofs.is_proper.Reads as is_proper
 use Rattle.receiver.proofs.later.Reads as later
 use Rattle.receiver.proofs.refused.Reads as refused
 use Rattle.receiver.proofs.run.Reads as run
-use Rattle.receiver.proofs.run_packed.Reads as run_packed_lem
+use Rattle.receiver.proofs.run_packed.Reads as run_packed
 use Rattle.receiver.proofs.run_until.Reads as run_until
 use Rattle.receiver.proofs.step.Reads as step
 use Rattle.receiver.proofs.step_packed.Reads as step_packed
@@ -25,10 +25,10 @@ run_until_determined κs a x y s t p q = p ∙ sym q
 pub step_determined : Determined step.Post
 step_determined κs a x y s t p q = p ∙ sym q
 
-pub fresh_packed_determined : Determined fresh_packed_lem.Post
+pub fresh_packed_determined : Determined fresh_packed.Post
 fresh_packed_determined κs a x y s t p q = p ∙ sym q
 
-pub run_packed_determined : Determined run_packed_lem.Post
+pub run_packed_determined : Determined run_packed.Post
 run_packed_determined κs a x y s t p q = p ∙ sym q
 
 pub step_packed_determined : Determined step_packed.Post
@@ -37,7 +37,7 @@ step_packed_determined κs a x y s t p q = p ∙ sym q
 pub refused_determined : Determined refused.Post
 refused_determined κs a x y s t p q = p ∙ sym q
 
-pub is_proper_determined : Determined is_proper_lem.Post
+pub is_proper_determined : Determined is_proper.Post
 is_proper_determined κs a x y s t p q = p ∙ sym q
 
 pub later_determined : Determined later.Post

@@ -1,4 +1,6 @@
 // The receiver: bits wait in a window of fifty, which is judged when it is full; a step and a run.
+#![tactic(auto)]
+
 mod states;
 mod windows;
 
@@ -19,7 +21,7 @@ use windows::{behind_first, empty, is_passed_over, join, move_on, weight, window
 
 // The state, as it is lent: plain numbers, and what is not in use is 0.
 #[repr(C)]
-#[derive(Drop)]
+#[derive(Clone, Copy, Drop)]
 pub struct State {
     pub mode: u8,
     pub good: u8,
@@ -33,7 +35,7 @@ pub struct State {
 
 // The same with its waiting bits as one number: the first in place 49, the next in 48, and what is not in use is 0.
 #[repr(C)]
-#[derive(Drop)]
+#[derive(Clone, Copy, Drop)]
 pub struct PackedState {
     pub mode: u8,
     pub good: u8,
@@ -72,7 +74,7 @@ pub struct PackedRan {
 
 // Where a run ends: with its last bit, or before it with the bit with which lock comes or goes, or with one with which that or the
 // kind of the time changes.
-#[derive(Drop)]
+#[derive(Clone, Copy, Drop)]
 pub enum Until {
     LastBit,
     LockChange,

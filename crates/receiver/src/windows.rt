@@ -10,7 +10,7 @@ ghost use Rattle.receiver.specs.Windows.{Turned};
 use crate::PackedState;
 use block::circuit::{remainder, turn};
 
-#[derive(Drop)]
+#[derive(Clone, Copy, Drop)]
 pub struct Window {
     pub bits: u64,
     pub register: u32,

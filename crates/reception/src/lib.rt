@@ -1,4 +1,6 @@
 // The reception report: totals over many journals, added up journal by journal or report by report (document 02, No. 12).
+#![tactic(auto)]
+
 mod tally;
 
 ghost use Rattle.std.specs.Prelude.{true, ◌≡◌, ◌≤◌, ◌^◌, eqb};
@@ -13,7 +15,7 @@ use tally::count_blocks;
 
 // Exact totals; all zeros before any journal.
 #[repr(C)]
-#[derive(Drop)]
+#[derive(Clone, Copy)]
 pub struct Report {
     pub blocks: u64,
     pub good: u64,

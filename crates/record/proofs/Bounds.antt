@@ -12,7 +12,7 @@ use Rattle.record.proofs.Tests.{between, is_within}
 pub record Time (hour minute : ℕ) (offset : ℤ) : Type 0 where
   pub to_hour : hour ≤ 23
   pub to_minute : minute ≤ 59
-  pub offset_in_lem : offset_in_range offset ≡ true
+  pub offset_in : offset_in_range offset ≡ true
 
 module _ (hour minute : ℕ) (offset : ℤ) where
   pub time_bounds : time_in_range hour minute offset ≡ true → Time hour minute offset
@@ -20,11 +20,11 @@ module _ (hour minute : ℕ) (offset : ℤ) where
   time_bounds e =
       let a = (and-eq-true_iff _ _).0 e in
       let b = (and-eq-true_iff _ _).0 a.1 in
-      record { to_hour = leb-true hour 23 a.0; to_minute = leb-true minute 59 b.0; offset_in_lem = b.1 }
+      record { to_hour = leb-true hour 23 a.0; to_minute = leb-true minute 59 b.0; offset_in = b.1 }
 
   pub time_in_range_lem : Time hour minute offset → time_in_range hour minute offset ≡ true
   unfolding time_in_range
-  time_in_range_lem t = rw (le-leb hour 23 t.to_hour, le-leb minute 59 t.to_minute, t.offset_in_lem)
+  time_in_range_lem t = rw (le-leb hour 23 t.to_hour, le-leb minute 59 t.to_minute, t.offset_in)
 
 pub record Bounds (r : Record) : Type 0 where
   pub leap : r.leap ≤ 3
@@ -48,9 +48,9 @@ bounds r e =
       time = time_bounds _ _ _ b.1;
     }
 
-pub in_range : (r : Record) → Bounds r → in_range r ≡ true
+pub in_range_lem : (r : Record) → Bounds r → in_range r ≡ true
 unfolding in_range kind_in_range day_in_range
-in_range r b =
+in_range_lem r b =
     rw (
       le-leb r.leap 3 b.leap,
       is_within 1 r.start_day 7 b.start_day_lem.0 b.start_day_lem.1,

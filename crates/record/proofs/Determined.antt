@@ -7,7 +7,7 @@ use Rattle.record.proofs.read_record.Reads as read_record
 use Rattle.record.proofs.write_record.Reads as write_record
 use Rattle.record.proofs.in_range.Reads as in_range
 use Rattle.record.proofs.is_filler.Reads as is_filler
-use Rattle.record.proofs.time_in_range.Reads as time_in_range_lem
+use Rattle.record.proofs.time_in_range.Reads as time_in_range
 use Rattle.record.proofs.within.Reads as within
 use Rattle.record.proofs.zeros.Reads as zeros
 
@@ -26,7 +26,7 @@ write_record_determined κs a x y s t p q = p ∙ sym q
 pub in_range_determined : Determined in_range.Post
 in_range_determined κs a x y s t p q = p ∙ sym q
 
-pub time_in_range_determined : Determined time_in_range_lem.Post
+pub time_in_range_determined : Determined time_in_range.Post
 time_in_range_determined κs a x y s t p q = p ∙ sym q
 
 pub within_determined : Determined within.Post

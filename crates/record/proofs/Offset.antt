@@ -17,7 +17,7 @@ use Rattle.record.specs.Ranges.{offset_in_range}
 -- a number that fits a signed byte, written to it and read back; what a proof knows of a struct's fields is a tuple, in which
 -- the offset stands last: seventh of a record, sixth of a date
 pub back : {z : ℤ} → mag z < 2 ^ 7 → to_z w8 (of_z w8 z) ≡ z
-back h = to_z-of_z (record { sfits = h })
+back h = to_z-of_z {w = w8} (record { sfits = h })
 
 -- ---- from six bits
 

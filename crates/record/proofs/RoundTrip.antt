@@ -46,7 +46,7 @@ offset_back (negsuc n) r =
 fields_back : (r : Record) → Bounds r → fields_of (word_of r) ≡ r
 unfolding fields_of word_of
 fields_back r b =
-    let six : six_of r.offset < 64 = six_fits r.offset b.time.offset_in_lem in
+    let six : six_of r.offset < 64 = six_fits r.offset b.time.offset_in in
     let leap : field (word_of r) 29 2 ≡ r.leap = omega arith in
     let start : field (word_of r) 26 3 ≡ r.start_day = omega arith in
     let week : field (word_of r) 20 6 ≡ r.week = omega arith in
@@ -54,11 +54,11 @@ fields_back r b =
     let hour : field (word_of r) 12 5 ≡ r.hour = omega arith in
     let minute : field (word_of r) 6 6 ≡ r.minute = omega arith in
     let offset : field (word_of r) 0 6 ≡ six_of r.offset = omega arith in
-    rw (leap, start, week, weekday, hour, minute, offset, offset_back r.offset b.time.offset_in_lem)
+    rw (leap, start, week, weekday, hour, minute, offset, offset_back r.offset b.time.offset_in)
 
 flag_zero : (r : Record) → Bounds r → flag_of (word_of r) ≡ 0
 unfolding word_of
-flag_zero r b = omega (arith, six_fits r.offset b.time.offset_in_lem)
+flag_zero r b = omega (arith, six_fits r.offset b.time.offset_in)
 
 -- it is no filler: in 1984 by its flag, in 1982 by its start day
 not_filler : (edition : Edition) (r : Record) → Bounds r → is_filler edition (word_of r) ≡ false

@@ -1,5 +1,7 @@
 // The 32-bit word of a time record, read and written (document 01, "The time record"), under either edition of the
 // specification (document 02, No. 3).
+#![tactic(auto)]
+
 ghost use Rattle.std.specs.Prelude.{◌≡◌, true, ◌+◌, ◌<◌};
 ghost use Rattle.record.specs.Editions.{edition_of, is_filler};
 ghost use Rattle.record.specs.Fields.{flag_of, offset_of, six_of, fields_of, word_of};
@@ -11,7 +13,7 @@ ghost use Rattle.record.specs.declared.Recorded.TheVariants.{Refused};
 use refusal::Refusal;
 
 // The specification that a sender follows.
-#[derive(Drop)]
+#[derive(Clone, Copy, Drop)]
 pub enum Edition {
     Of1984,
     Of1982,
@@ -26,7 +28,7 @@ pub enum Named {
 
 // A minute in UTC as it is sent: the kind of its year, its week and weekday, its time.
 #[repr(C)]
-#[derive(Drop)]
+#[derive(Clone, Copy, Drop)]
 pub struct Record {
     // How near a leap year is, by the edition's code.
     pub leap: u8,

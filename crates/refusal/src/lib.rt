@@ -1,9 +1,11 @@
 // Why something is refused: one case for each row of document 01, "Numbers given when something is refused", and for each
 // refusal of document 02's requests that are built.
+#![tactic(auto)]
+
 ghost use Rattle.std.specs.Prelude.{◌≡◌};
 ghost use Rattle.refusal.specs.Numbers.{number_of};
 
-#[derive(Drop)]
+#[derive(Clone, Copy, Drop)]
 pub enum Refusal {
     // A bit is neither 0 nor 1.
     NotABit,

@@ -1,43 +1,47 @@
 // The lines that are printed. Each function answers whether all of it was written; where not, it has said why on standard error.
 ghost use Rattle.std.specs.Prelude.{◌≤◌};
 
+use console::{fail, put, put_number};
 use reception::{Report, Share};
 use refusal::Refusal;
+use std::io;
 
-fn written(done: bool) -> bool {
-    if done {
-        return true;
+fn written(rt: &impl Eprint, done: io::Result<()>) -> bool {
+    match done {
+        Ok(()) => true,
+        Err(error) => {
+            fail(rt, "report: standard output", error);
+            false
+        }
     }
-    os::fail(b"report: standard output");
-    false
 }
 
 // A text with a number behind it.
-fn number(text: &[u8], n: u64) -> bool {
-    if written(io::write_all(1, text)) {
-        written(io::print_decimal(1, n))
+fn number(rt: &(impl Print + Eprint), text: &str, n: u64) -> bool {
+    if written(rt, put(rt, text.as_bytes())) {
+        written(rt, put_number(rt, n))
     } else {
         false
     }
 }
 
-fn line(text: &[u8], n: u64) -> bool {
-    if number(text, n) {
-        written(io::write_all(1, b"\n"))
+fn line(rt: &(impl Print + Eprint), text: &str, n: u64) -> bool {
+    if number(rt, text, n) {
+        written(rt, put(rt, b"\n"))
     } else {
         false
     }
 }
 
 // Good blocks of a thousand. A report that was counted is proper, so it is never refused.
-fn share(report: Report) -> bool {
+fn share(rt: &(impl Print + Eprint), report: Report) -> bool {
     match reception::per_thousand(report) {
         Share::PerThousand {
             quotient,
             remainder,
         } => {
-            if number(b"good per thousand: ", quotient) {
-                line(b", remainder ", remainder)
+            if number(rt, "good per thousand: ", quotient) {
+                line(rt, ", remainder ", remainder)
             } else {
                 false
             }
@@ -47,68 +51,72 @@ fn share(report: Report) -> bool {
 }
 
 // Four codes in a line, from this one on.
-fn four(text: &[u8], codes: [u64; 16], from: usize) -> bool
+fn four(rt: &(impl Print + Eprint), text: &str, codes: [u64; 16], from: usize) -> bool
     requires { from ≤ 12 }
 {
-    if !number(text, codes[from]) {
+    if !number(rt, text, codes[from]) {
         return false;
     }
-    if !number(b" ", codes[from + 1]) {
+    if !number(rt, " ", codes[from + 1]) {
         return false;
     }
-    if !number(b" ", codes[from + 2]) {
+    if !number(rt, " ", codes[from + 2]) {
         return false;
     }
-    line(b" ", codes[from + 3])
+    line(rt, " ", codes[from + 3])
 }
 
-fn codes(codes: [u64; 16]) -> bool {
-    if !four(b"codes 0 to 3: ", codes, 0) {
+fn codes(rt: &(impl Print + Eprint), codes: [u64; 16]) -> bool {
+    if !four(rt, "codes 0 to 3: ", codes, 0) {
         return false;
     }
-    if !four(b"codes 4 to 7: ", codes, 4) {
+    if !four(rt, "codes 4 to 7: ", codes, 4) {
         return false;
     }
-    if !four(b"codes 8 to 11: ", codes, 8) {
+    if !four(rt, "codes 8 to 11: ", codes, 8) {
         return false;
     }
-    four(b"codes 12 to 15: ", codes, 12)
+    four(rt, "codes 12 to 15: ", codes, 12)
 }
 
 // Eight lines, the first that cannot be written being the last.
-pub fn say(report: Report) -> bool {
-    if !line(b"blocks: ", report.blocks) {
+pub fn say(rt: &(impl Print + Eprint), report: Report) -> bool {
+    if !line(rt, "blocks: ", report.blocks) {
         return false;
     }
-    if !line(b"good: ", report.good) {
+    if !line(rt, "good: ", report.good) {
         return false;
     }
-    if !share(report) {
+    if !share(rt, report) {
         return false;
     }
-    if !line(b"fillers: ", report.fillers) {
+    if !line(rt, "fillers: ", report.fillers) {
         return false;
     }
     let each = report.codes;
-    codes(each)
+    codes(rt, each)
 }
 
-fn reason(text: &[u8]) {
-    io::write_all(2, text);
+// Where standard error takes nothing there is nowhere else to tell it.
+fn reason(rt: &impl Eprint, number: u8, text: &str) {
+    let _ = eprintln!(rt; "report: refused with {number}: {text}");
 }
 
 // Why a journal has no report: the number and the reason.
-pub fn refused(why: Refusal) {
-    io::write_all(2, b"report: refused with ");
-    io::print_decimal(2, refusal::number(why) as u64);
+pub fn refused(rt: &impl Eprint, why: Refusal) {
+    let number = refusal::number(why);
     match why {
-        Refusal::WrongTrailer => reason(b": the trailer does not fit\n"),
+        Refusal::WrongTrailer => reason(rt, number, "the trailer does not fit"),
         Refusal::NotRising => reason(
-            b": the bit number of a wanted entry is not above the one before\n",
+            rt,
+            number,
+            "the bit number of a wanted entry is not above the one before",
         ),
         Refusal::NumberTooWide => reason(
-            b": the block of a wanted entry has a bit above place 49\n",
+            rt,
+            number,
+            "the block of a wanted entry has a bit above place 49",
         ),
-        _ => reason(b": more than 2^32 blocks\n"),
+        _ => reason(rt, number, "more than 2^32 blocks"),
     }
 }

@@ -1,13 +1,17 @@
 // The reception report of one journal, read from standard input.
+#![tactic(auto)]
+
 ghost use Rattle.std.specs.Prelude.{◌≡◌, ◌≤◌, length};
-ghost use Rattle.io.specs.Counts.{IsPrefixLen};
+ghost use Rattle.console.specs.Counts.{IsPrefixLen};
 
 mod lines;
 
 use command::asked;
+use console::fail;
 use lines::{refused, say};
 use reception::{Outcome, Report};
 use record::{Edition, Named};
+use std::io::{ErrorKind, Read};
 
 // What one read brought: how many bytes, whether there may be more, and whether it succeeded.
 #[derive(Drop)]
@@ -18,29 +22,31 @@ struct Taken {
 }
 
 // An interrupted read is taken up again; any other failure is told.
-fn take(rest: &mut [u8]) -> Taken
+fn take(rt: &impl Eprint, input: &mut impl Read, rest: &mut [u8]) -> Taken
     ensures { result.bytes ≤ length rest.old }
 {
-    let got = libc::read(0, rest);
-    let mut more = true;
-    let mut sound = true;
-    if got < 1 {
-        more = got < 0;
-        if got < 0 && os::errno() != libc::EINTR {
-            os::fail(b"report: standard input");
-            more = false;
-            sound = false;
+    match input.read(rest) {
+        Ok(n) => Taken {
+            bytes: n,
+            more: 0 < n,
+            sound: true,
+        },
+        Err(error) => {
+            let again = error.kind() == ErrorKind::Interrupted;
+            if !again {
+                fail(rt, "report: standard input", error);
+            }
+            Taken {
+                bytes: 0,
+                more: again,
+                sound: again,
+            }
         }
-    }
-    Taken {
-        bytes: io::count(got, rest),
-        more,
-        sound,
     }
 }
 
 // Reads until the input ends, or a read fails, or the memory is full.
-fn take_all(memory: &mut [u8]) -> Taken
+fn take_all(rt: &impl Eprint, input: &mut impl Read, memory: &mut [u8]) -> Taken
     ensures { IsPrefixLen result.bytes memory.new }
 {
     let mut n: usize = 0;
@@ -48,7 +54,7 @@ fn take_all(memory: &mut [u8]) -> Taken
     let mut sound = true;
     let mut turns = u64::MAX;
     while 0 < turns && more && n < memory.len() {
-        let taken = take(&mut memory[n..]);
+        let taken = take(rt, input, &mut memory[n..]);
         n += taken.bytes;
         more = taken.more;
         sound = taken.sound;
@@ -70,15 +76,15 @@ fn fresh() -> Report {
     }
 }
 
-fn tell(edition: Edition, journal: &[u8]) {
+fn tell(rt: &(impl Print + Eprint), edition: Edition, journal: &[u8]) {
     let reported = reception::add(edition, fresh(), journal);
     let report = reported.report;
     let outcome = reported.outcome;
     match outcome {
         Outcome::Counted => {
-            say(report);
+            say(rt, report);
         }
-        Outcome::Refused(why) => refused(why),
+        Outcome::Refused(why) => refused(rt, why),
     }
 }
 
@@ -90,18 +96,19 @@ fn memory() -> [u8; 6291457]
 }
 
 // The whole journal is in memory, since its trailer comes last and points back.
-fn main() {
-    let Named::Given(edition) = asked(b"report") else {
+fn main(rt: HostRuntime) {
+    let Named::Given(edition) = asked(&rt, "report") else {
         return;
     };
+    let mut input = rt.stdin();
     let mut journal = memory();
-    let taken = take_all(&mut journal);
+    let taken = take_all(&rt, &mut input, &mut journal);
     let n = taken.bytes;
     if 6291456 < n {
-        io::write_all(2, b"report: the journal is longer than 6291456 bytes\n");
+        let _ = eprintln!(rt; "report: the journal is longer than 6291456 bytes");
         return;
     }
     if taken.sound {
-        tell(edition, &journal[..n]);
+        tell(&rt, edition, &journal[..n]);
     }
 }

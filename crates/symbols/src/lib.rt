@@ -1,5 +1,7 @@
 // The Reed-Solomon code of the Polish frame: fifteen symbols of four bits, the last six of them check symbols.
 // A word is one number, four bits to each symbol, the first highest.
+#![tactic(auto)]
+
 mod code;
 
 ghost use Rattle.big_endian.specs.Digits.{digits};

@@ -3,11 +3,11 @@
 use mathlib.Core.Path.{sym, ◌∙◌}
 use Rattle.refusal.proofs.Determined.{Determined}
 use Rattle.timekeeping.proofs.is_no_time.Reads as is_no_time
-use Rattle.timekeeping.proofs.is_proper.Reads as is_proper_lem
-use Rattle.timekeeping.proofs.no_time.Reads as no_time_lem
+use Rattle.timekeeping.proofs.is_proper.Reads as is_proper
+use Rattle.timekeeping.proofs.no_time.Reads as no_time
 use Rattle.timekeeping.proofs.offered_to.Reads as offered_to
 
-pub no_time_determined : Determined no_time_lem.Post
+pub no_time_determined : Determined no_time.Post
 no_time_determined κs a x y s t p q = p ∙ sym q
 
 pub offered_to_determined : Determined offered_to.Post
@@ -16,5 +16,5 @@ offered_to_determined κs a x y s t p q = p ∙ sym q
 pub is_no_time_determined : Determined is_no_time.Post
 is_no_time_determined κs a x y s t p q = p ∙ sym q
 
-pub is_proper_determined : Determined is_proper_lem.Post
+pub is_proper_determined : Determined is_proper.Post
 is_proper_determined κs a x y s t p q = p ∙ sym q

@@ -1,4 +1,6 @@
 // The time: held, aged, confirmed and forgotten, block by block; and when it is proper.
+#![tactic(auto)]
+
 ghost use Rattle.std.specs.Prelude.{◌≡◌, ◌+◌, ◌≤◌};
 ghost use Rattle.calendar.specs.Dates.{usable_of};
 ghost use Rattle.calendar.specs.MinutesLater.{then_next, minutes_later};
@@ -9,7 +11,7 @@ use block::Read;
 use record::{Edition, Record, Recorded};
 
 // None (0), a candidate (1) or confirmed (2); the record that is held, and its age in blocks.
-#[derive(Drop)]
+#[derive(Clone, Copy, Drop)]
 pub struct Time {
     pub kind: u8,
     pub held: Record,

@@ -7,7 +7,7 @@ use crate::chance::{drawn, stepped};
 use record::{Edition, Record, Worded};
 
 // What is left to send: blocks, how many of them to damage, and where chance stands.
-#[derive(Drop)]
+#[derive(Clone, Copy, Drop)]
 pub struct Left {
     pub blocks: u32,
     pub damaged: u32,

@@ -2,44 +2,45 @@
 use crate::Asked;
 use arguments::{Day, Number, Offset, Time, day_of, edition_of, number_of, offset_of, time_of};
 use calendar::Date;
+use console::{argument, argument_count};
 use record::{Edition, Named, Recorded};
+use std::env::Env;
 
-fn complain(text: &[u8]) -> Asked {
-    io::write_all(2, b"transmit: ");
-    io::write_all(2, text);
-    io::write_all(2, b"\n");
+// Where standard error takes nothing there is nowhere else to tell it.
+fn complain(rt: &impl Eprint, text: &str) -> Asked {
+    let _ = eprintln!(rt; "transmit: {text}");
     Asked::Nothing
 }
 
 // The argument at a place, as it is read; one that is missing or has more than sixteen characters is read as empty.
-fn number_in(i: usize) -> Number {
+fn number_in(rt: &impl Env, i: usize) -> Number {
     let mut text = [0u8; 16];
-    let n = os::arg(i, &mut text);
+    let n = argument(rt, i, &mut text);
     number_of(&text[..n])
 }
 
-fn day_in(i: usize) -> Day {
+fn day_in(rt: &impl Env, i: usize) -> Day {
     let mut text = [0u8; 16];
-    let n = os::arg(i, &mut text);
+    let n = argument(rt, i, &mut text);
     day_of(&text[..n])
 }
 
-fn time_in(i: usize) -> Time {
+fn time_in(rt: &impl Env, i: usize) -> Time {
     let mut text = [0u8; 16];
-    let n = os::arg(i, &mut text);
+    let n = argument(rt, i, &mut text);
     time_of(&text[..n])
 }
 
-fn offset_in(i: usize) -> Offset {
+fn offset_in(rt: &impl Env, i: usize) -> Offset {
     let mut text = [0u8; 16];
-    let n = os::arg(i, &mut text);
+    let n = argument(rt, i, &mut text);
     offset_of(&text[..n])
 }
 
 // The number at a place that may be left out.
-fn number_or(i: usize, count: usize, otherwise: u32) -> Number {
+fn number_or(rt: &impl Env, i: usize, count: usize, otherwise: u32) -> Number {
     if i < count {
-        number_in(i)
+        number_in(rt, i)
     } else {
         Number::Of(otherwise)
     }
@@ -59,10 +60,10 @@ fn short_of(number: Number) -> u16 {
 }
 
 // The edition at a place that may be left out.
-fn edition_or(i: usize, count: usize, otherwise: Edition) -> Named {
+fn edition_or(rt: &impl Env, i: usize, count: usize, otherwise: Edition) -> Named {
     if i < count {
         let mut text = [0u8; 16];
-        let n = os::arg(i, &mut text);
+        let n = argument(rt, i, &mut text);
         edition_of(&text[..n])
     } else {
         Named::Given(otherwise)
@@ -70,8 +71,8 @@ fn edition_or(i: usize, count: usize, otherwise: Edition) -> Named {
 }
 
 // How many blocks to damage, of thirty a minute.
-fn damaged_in(i: usize, count: usize, minutes: u16) -> Number {
-    let number = number_or(i, count, 0);
+fn damaged_in(rt: &impl Env, i: usize, count: usize, minutes: u16) -> Number {
+    let number = number_or(rt, i, count, 0);
     let Number::Of(n) = number else {
         return number;
     };
@@ -82,57 +83,64 @@ fn damaged_in(i: usize, count: usize, minutes: u16) -> Number {
     }
 }
 
-fn wrong_count() -> Asked {
+fn wrong_count(rt: &impl Eprint) -> Asked {
     complain(
-        b"expected DATE TIME OFFSET MINUTES [DAMAGED [SEED [EDITION]]], as in: transmit 1986-01-01 12:34 2 5",
+        rt,
+        "expected DATE TIME OFFSET MINUTES [DAMAGED [SEED [EDITION]]], as in: transmit 1986-01-01 12:34 2 5",
     )
 }
 
-fn wrong_date() -> Asked {
-    complain(b"DATE: expected a day as 1986-01-01, from 1900-12-31 to 2100-01-03")
+fn wrong_date(rt: &impl Eprint) -> Asked {
+    complain(
+        rt,
+        "DATE: expected a day as 1986-01-01, from 1900-12-31 to 2100-01-03",
+    )
 }
 
-fn wrong_time() -> Asked {
-    complain(b"TIME: expected a time as 12:34, from 00:00 to 23:59")
+fn wrong_time(rt: &impl Eprint) -> Asked {
+    complain(rt, "TIME: expected a time as 12:34, from 00:00 to 23:59")
 }
 
-fn wrong_offset() -> Asked {
-    complain(b"OFFSET: expected a number of half hours from -32 to 31")
+fn wrong_offset(rt: &impl Eprint) -> Asked {
+    complain(rt, "OFFSET: expected a number of half hours from -32 to 31")
 }
 
-fn wrong_minutes() -> Asked {
-    complain(b"MINUTES: expected a number from 1 to 65535")
+fn wrong_minutes(rt: &impl Eprint) -> Asked {
+    complain(rt, "MINUTES: expected a number from 1 to 65535")
 }
 
-fn wrong_damaged() -> Asked {
-    complain(b"DAMAGED: expected a number of blocks, from 0 to thirty times MINUTES")
+fn wrong_damaged(rt: &impl Eprint) -> Asked {
+    complain(
+        rt,
+        "DAMAGED: expected a number of blocks, from 0 to thirty times MINUTES",
+    )
 }
 
-fn wrong_seed() -> Asked {
-    complain(b"SEED: expected a number from 0 to 9999999")
+fn wrong_seed(rt: &impl Eprint) -> Asked {
+    complain(rt, "SEED: expected a number from 0 to 9999999")
 }
 
-fn wrong_edition() -> Asked {
-    complain(b"EDITION: expected 1984 or 1982")
+fn wrong_edition(rt: &impl Eprint) -> Asked {
+    complain(rt, "EDITION: expected 1984 or 1982")
 }
 
 // How long the feed is, how much of it is damaged, and in which edition it is sent.
-fn feed_from(date: Date, count: usize) -> Asked {
-    let minutes = short_of(number_in(4));
+fn feed_from(rt: &(impl Env + Eprint), date: Date, count: usize) -> Asked {
+    let minutes = short_of(number_in(rt, 4));
     if minutes == 0 {
-        return wrong_minutes();
+        return wrong_minutes(rt);
     }
-    let Number::Of(damaged) = damaged_in(5, count, minutes) else {
-        return wrong_damaged();
+    let Number::Of(damaged) = damaged_in(rt, 5, count, minutes) else {
+        return wrong_damaged(rt);
     };
-    let Number::Of(seed) = number_or(6, count, 1) else {
-        return wrong_seed();
+    let Number::Of(seed) = number_or(rt, 6, count, 1) else {
+        return wrong_seed(rt);
     };
-    let Named::Given(edition) = edition_or(7, count, Edition::Of1984) else {
-        return wrong_edition();
+    let Named::Given(edition) = edition_or(rt, 7, count, Edition::Of1984) else {
+        return wrong_edition(rt);
     };
     let Recorded::Given(record) = calendar::record_of_date(edition, date) else {
-        return wrong_date();
+        return wrong_date(rt);
     };
     Asked::Feed {
         edition,
@@ -165,31 +173,31 @@ fn has_record(date: Date) -> bool {
     }
 }
 
-fn feed_in(count: usize) -> Asked {
-    let day = day_in(1);
+fn feed_in(rt: &(impl Env + Eprint), count: usize) -> Asked {
+    let day = day_in(rt, 1);
     let midnight = Time::Of { hour: 0, minute: 0 };
     if !has_record(date_of(day, midnight, Offset::Of(0))) {
-        return wrong_date();
+        return wrong_date(rt);
     }
-    let time = time_in(2);
+    let time = time_in(rt, 2);
     if !has_record(date_of(day, time, Offset::Of(0))) {
-        return wrong_time();
+        return wrong_time(rt);
     }
-    let date = date_of(day, time, offset_in(3));
+    let date = date_of(day, time, offset_in(rt, 3));
     if has_record(date) {
-        feed_from(date, count)
+        feed_from(rt, date, count)
     } else {
-        wrong_offset()
+        wrong_offset(rt)
     }
 }
 
-pub fn asked() -> Asked {
-    let count = os::arg_count();
+pub fn asked(rt: &(impl Env + Eprint)) -> Asked {
+    let count = argument_count(rt);
     if count < 5 {
-        return wrong_count();
+        return wrong_count(rt);
     }
     if 8 < count {
-        return wrong_count();
+        return wrong_count(rt);
     }
-    feed_in(count)
+    feed_in(rt, count)
 }

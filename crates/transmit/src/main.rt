@@ -1,4 +1,6 @@
 // The test generator: writes the bits of a feed, thirty blocks a minute, the time block last and fillers before it.
+#![tactic(auto)]
+
 mod blocks;
 mod chance;
 mod command;
@@ -9,6 +11,7 @@ ghost use Rattle.transmit.specs.declared.blocks.Left.{Left};
 
 use blocks::{Left, after, block_sent, filler, word_of};
 use command::asked;
+use console::{fail, put};
 use record::{Edition, Record, Recorded};
 
 // What is asked for: the edition, the first minute's record, and how many minutes and damaged blocks.
@@ -32,32 +35,34 @@ enum Sent {
 }
 
 // Tells why, where not all of it could be written.
-fn write(bytes: &[u8]) -> bool {
-    if io::write_all(1, bytes) {
-        return true;
+fn write(rt: &(impl Print + Eprint), bytes: &[u8]) -> bool {
+    match put(rt, bytes) {
+        Ok(()) => true,
+        Err(error) => {
+            fail(rt, "transmit: standard output", error);
+            false
+        }
     }
-    os::fail(b"transmit: standard output");
-    false
 }
 
-fn send_block(left: Left, word: u32) -> Sent
+fn send_block(rt: &(impl Print + Eprint), left: Left, word: u32) -> Sent
     ensures { Follows 1 left result }
 {
     let line = block_sent(left, word);
-    if write(&line) {
+    if write(rt, &line) {
         return Sent::On(after(left));
     }
     Sent::Failed
 }
 
-fn send_fillers(edition: Edition, start: Left) -> Sent
+fn send_fillers(rt: &(impl Print + Eprint), edition: Edition, start: Left) -> Sent
     ensures { Follows 29 start result }
 {
     let word = filler(edition);
     let mut left = start;
     let mut i: u32 = 0;
     while i < 29 {
-        let Sent::On(next) = send_block(left, word) else {
+        let Sent::On(next) = send_block(rt, left, word) else {
             return Sent::Failed;
         };
         left = next;
@@ -67,12 +72,12 @@ fn send_fillers(edition: Edition, start: Left) -> Sent
 }
 
 // The end of the line, unless sending it failed.
-fn end_line(sent: Sent) -> Sent
+fn end_line(rt: &(impl Print + Eprint), sent: Sent) -> Sent
     ensures { (k : ℕ) (start : Left) → Follows k start sent → Follows k start result }
 {
     match sent {
         Sent::On(_) => {
-            if write(b"\n") {
+            if write(rt, b"\n") {
                 return sent;
             }
             Sent::Failed
@@ -82,22 +87,22 @@ fn end_line(sent: Sent) -> Sent
 }
 
 // Twenty-nine fillers, the time block, and the end of the line.
-fn send_minute(edition: Edition, start: Left, record: Record) -> Sent
+fn send_minute(rt: &(impl Print + Eprint), edition: Edition, start: Left, record: Record) -> Sent
     ensures { Follows 30 start result }
 {
-    let Sent::On(left) = send_fillers(edition, start) else {
+    let Sent::On(left) = send_fillers(rt, edition, start) else {
         return Sent::Failed;
     };
-    end_line(send_block(left, word_of(edition, record)))
+    end_line(rt, send_block(rt, left, word_of(edition, record)))
 }
 
 // Minute after minute, as long as standard output takes it.
-fn send(edition: Edition, first: Record, minutes: u16, start: Left) {
+fn send(rt: &(impl Print + Eprint), edition: Edition, first: Record, minutes: u16, start: Left) {
     let mut record = first;
     let mut left = start;
     let mut k = minutes;
     while 0 < k {
-        let Sent::On(then) = send_minute(edition, left, record) else {
+        let Sent::On(then) = send_minute(rt, edition, left, record) else {
             return;
         };
         left = then;
@@ -110,8 +115,8 @@ fn send(edition: Edition, first: Record, minutes: u16, start: Left) {
     }
 }
 
-fn main() {
-    match asked() {
+fn main(rt: HostRuntime) {
+    match asked(&rt) {
         Asked::Feed {
             edition,
             record,
@@ -124,7 +129,7 @@ fn main() {
                 damaged,
                 chance: chance::from(seed),
             };
-            send(edition, record, minutes, left);
+            send(&rt, edition, record, minutes, left);
         }
         Asked::Nothing => {}
     }

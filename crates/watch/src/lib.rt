@@ -1,4 +1,6 @@
 // A receiver with what is remembered of its history, and why a dial is blank.
+#![tactic(auto)]
+
 ghost use Rattle.std.specs.Prelude.{true, ◌≡◌, ◌+◌, ◌≤◌, ◌<◌, ◌^◌, length};
 ghost use Rattle.locking.specs.Modes.{no_blocks};
 ghost use Rattle.receiver.specs.Runs.{counts_of};
@@ -12,7 +14,7 @@ use refusal::Refusal;
 // A receiver, how many bits it was fed, and with which bits lock was last lost, time was last dropped since the present lock, and the
 // block came that made the held candidate where it displaced a held record; 0 where there is none.
 #[repr(C)]
-#[derive(Drop)]
+#[derive(Clone, Copy)]
 pub struct Watch {
     pub state: PackedState,
     pub fed: u64,

@@ -1,5 +1,7 @@
 // The program that says why a dial is blank: characters 0 and 1 from standard input are bits, and one line says how the time stands
 // after them.
+#![tactic(auto)]
+
 ghost use Rattle.std.specs.Prelude.{true, ◌≡◌};
 ghost use Rattle.watch.specs.Watches.{watch_proper};
 ghost use Rattle.why.specs.Told.{FedOn, Told};
@@ -10,6 +12,7 @@ use command::asked;
 use input::read_bits;
 use record::{Edition, Named};
 use report::say;
+use std::io::Read;
 use watch::{Standing, Watch};
 
 // The watch after some of the input, whether there may be more of it, and whether all reading so far succeeded.
@@ -28,12 +31,12 @@ struct Ending {
 }
 
 // Reads one large piece of the input and feeds its bits.
-fn read_piece(edition: Edition, start: Watch) -> Progress
+fn read_piece(rt: &impl Eprint, input: &mut impl Read, edition: Edition, start: Watch) -> Progress
     requires { watch_proper edition start ≡ true }
     ensures { FedOn edition start result.watch }
 {
-    let mut buffer = io::large_buffer();
-    let piece = read_bits(&mut buffer, b"why: standard input");
+    let mut buffer = [0u8; 65536];
+    let piece = read_bits(rt, input, &mut buffer, "why: standard input");
     let n = piece.bits;
     let watched = watch::run(edition, start, &buffer[..n]);
     let watch = watched.watch;
@@ -45,7 +48,7 @@ fn read_piece(edition: Edition, start: Watch) -> Progress
 }
 
 // Piece after piece, until the input ends or reading fails.
-fn read_all(edition: Edition) -> Ending
+fn read_all(rt: &impl Eprint, input: &mut impl Read, edition: Edition) -> Ending
     ensures { Told edition result.standing }
 {
     let watch = watch::fresh();
@@ -57,7 +60,7 @@ fn read_all(edition: Edition) -> Ending
     let mut turns = u64::MAX;
     while 0 < turns && progress.more && progress.sound {
         let watch = progress.watch;
-        progress = read_piece(edition, watch);
+        progress = read_piece(rt, input, edition, watch);
         turns -= 1;
     }
     let watch = progress.watch;
@@ -69,13 +72,14 @@ fn read_all(edition: Edition) -> Ending
 }
 
 // After a failed read, which was told, nothing is said.
-fn main() {
-    let Named::Given(edition) = asked(b"why") else {
+fn main(rt: HostRuntime) {
+    let Named::Given(edition) = asked(&rt, "why") else {
         return;
     };
-    let ending = read_all(edition);
+    let mut input = rt.stdin();
+    let ending = read_all(&rt, &mut input, edition);
     if ending.sound {
         let standing = ending.standing;
-        say(standing);
+        say(&rt, standing);
     }
 }

@@ -9,7 +9,7 @@ use native.Mathlib.Omega.{arith}
 use lib.Bits.{bit_xor, xor_self}
 use lib.Dec.{eqb}
 use lib.ListN.{length}
-use Rattle.field16.specs.Words.{a_to, at, weight}
+use Rattle.field16.specs.Words.{a_to, weight}
 use Rattle.field16.specs.Field.{times}
 use Rattle.field16.proofs.Elements.{times_zero, zero_times}
 use Rattle.field16.proofs.Words.{away, length_away}

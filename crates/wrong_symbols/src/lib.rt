@@ -1,4 +1,6 @@
 // The wrong symbols of a word, at most three, from what its check symbols miss.
+#![tactic(auto)]
+
 mod mending;
 mod search;
 

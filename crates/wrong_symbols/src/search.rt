@@ -7,7 +7,7 @@ use field16::times;
 use power_sums::{fit, five, four};
 
 // Three minors of five numbers, which say cheaply that no second place can be found.
-#[derive(Drop)]
+#[derive(Clone, Copy)]
 struct Minors {
     one: u8,
     sum: u8,

@@ -1,9 +1,0 @@
--- `lw_unpack` meets its contract: the number of the callee's answer, and the bytes as it leaves them.
--- Assumes nothing.
-use borrow.Author.Rules.{rules}
-use Rattle.face_block.proofs.Wrote.{wrote}
-use Rattle.face_block.proofs.lw_unpack.Statement.{statement}
-use Rattle.face_block.proofs.lw_unpack.Tie as tie
-
-pub lw_unpack_spec : {M : Type 1} → statement M
-lw_unpack_spec = tie.close (tie.spec (λ c κs. search rules) (λ c κs. search rules) (λ c. search rules) (λ c. wrote c.outcome.ensures c.before.before.before.unpack.ensures))

@@ -1,0 +1,10 @@
+-- `polarity_of` meets its contract: each arm is the case that its test leaves.
+-- Assumes nothing.
+use borrow.Author.Tests.{eq-eqb, ne_eqb}
+use Rattle.face_halves.proofs.polarity_of.Goals as goal
+
+pub returns-then-number-eq0 : goal.returns-then-number-eq0
+returns-then-number-eq0 c = rw (eq-eqb c.args.number 0 c.if-number-eq0.true)
+
+pub returns : goal.returns
+returns c = rw (ne_eqb c.args.number 0 c.if-number-eq0.false)

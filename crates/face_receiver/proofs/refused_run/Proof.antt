@@ -1,8 +1,0 @@
--- `refused_run` meets its contract: nothing is counted, and the state is as it was.
--- Assumes nothing.
-use borrow.Author.Rules.{rules}
-use Rattle.face_receiver.proofs.refused_run.Statement.{statement}
-use Rattle.face_receiver.proofs.refused_run.Tie as tie
-
-pub refused_run_spec : {M : Type 1} → statement M
-refused_run_spec = tie.close (tie.spec (λ c κs. search rules) (λ c. rw c.refused.ensures))
