@@ -60,6 +60,12 @@ fn ratio(time: Duration, other: Duration) -> f64 {
     other.as_secs_f64() / time.as_secs_f64()
 }
 
+/// Whether the compiler of the present kit is known to miss this demand, as `.ci/run`
+/// tells. Then the ratio is told, and fails nothing.
+fn known_to_be_missed(what: &str) -> bool {
+    env::var("KNOWN_TO_BE_MISSED").is_ok_and(|known| known.split(' ').any(|one| one == what))
+}
+
 /// Fails unless the first has more than this part of the other's speed. Nothing is
 /// demanded of an emulator.
 pub fn demand(what: &str, names: [&str; 2], best: [Duration; 2], least: f64) {
@@ -67,6 +73,12 @@ pub fn demand(what: &str, names: [&str; 2], best: [Duration; 2], least: f64) {
     let [name, other] = names;
     if emulated() {
         println!("{what}: an emulator; {name}/{other} was NOT demanded to be above {least:.2}");
+        return;
+    }
+    if ratio <= least && known_to_be_missed(what) {
+        println!(
+            "{what}: {name}/{other} = {ratio:.3}, NOT above {least:.2}, as is known of the kit"
+        );
         return;
     }
     assert!(
