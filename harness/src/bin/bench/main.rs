@@ -30,7 +30,20 @@ use std::env;
 
 use harness::random::seed;
 
-use contest::emulated;
+use contest::{emulated, measured};
+
+const CONTESTS: [fn(); 10] = [
+    blocks::measure,
+    numbers::measure,
+    mending::measure,
+    joining::measure,
+    journal::measure,
+    halves::measure,
+    receiver::measure,
+    watching::measure,
+    polish::measure,
+    program::measure,
+];
 
 fn main() {
     match env::args().nth(1).as_deref() {
@@ -39,16 +52,8 @@ fn main() {
             if emulated() {
                 println!("bench: an emulator: ONE round of each; the times say nothing");
             }
-            blocks::measure();
-            numbers::measure();
-            mending::measure();
-            joining::measure();
-            journal::measure();
-            halves::measure();
-            receiver::measure();
-            watching::measure();
-            polish::measure();
-            program::measure();
+            let missed: Vec<String> = CONTESTS.into_iter().flat_map(measured).collect();
+            assert!(missed.is_empty(), "missed: {}", missed.join("; "));
         }
         // The program by hand, which has to be a process of its own.
         Some(program::BY_HAND) => program::receive().expect("standard input"),
