@@ -1,7 +1,7 @@
--- Two results that an export's contract allows for the same input are equal, lent places included.
+-- An export determines what the call that it hands on determines, lent places included: the two promise the same.
 -- Assumes nothing.
-use mathlib.Core.Path.{sym, ◌∙◌}
 use Rattle.refusal.proofs.Determined.{Determined, Leaves}
+use Rattle.face_receiver.proofs.Determined as call
 use Rattle.face_receiver_c.proofs.lw_feed.Reads as feed
 use Rattle.face_receiver_c.proofs.lw_feed_packed.Reads as feed_packed
 use Rattle.face_receiver_c.proofs.lw_fresh.Reads as fresh
@@ -13,43 +13,43 @@ use Rattle.face_receiver_c.proofs.lw_watch_run.Reads as watch_run
 use Rattle.face_receiver_c.proofs.lw_why.Reads as why
 
 pub fresh_determined : Determined fresh.Post
-fresh_determined κs a x y s t p q = p ∙ sym q
+fresh_determined = call.fresh_determined
 
 pub fresh_packed_determined : Determined fresh_packed.Post
-fresh_packed_determined κs a x y s t p q = p ∙ sym q
+fresh_packed_determined = call.fresh_packed_determined
 
 pub watch_fresh_determined : Determined watch_fresh.Post
-watch_fresh_determined κs a x y s t p q = p ∙ sym q
+watch_fresh_determined = call.watch_fresh_determined
 
 pub why_determined : Determined why.Post
-why_determined κs a x y s t p q = p ∙ sym q
+why_determined = call.why_determined
 
 pub feed_determined : Determined feed.Post
-feed_determined κs a x y s t p q = p.0 ∙ sym q.0
+feed_determined = call.feed_determined
 
 pub feed_leaves : Leaves feed.Post (λ κs s. s.1.0.now)
-feed_leaves κs a x y s t p q = p.1 ∙ sym q.1
+feed_leaves = call.feed_leaves
 
 pub feed_packed_determined : Determined feed_packed.Post
-feed_packed_determined κs a x y s t p q = p.0 ∙ sym q.0
+feed_packed_determined = call.feed_packed_determined
 
 pub feed_packed_leaves : Leaves feed_packed.Post (λ κs s. s.1.0.now)
-feed_packed_leaves κs a x y s t p q = p.1 ∙ sym q.1
+feed_packed_leaves = call.feed_packed_leaves
 
 pub run_determined : Determined run.Post
-run_determined κs a x y s t p q = p.0 ∙ sym q.0
+run_determined = call.run_determined
 
 pub run_leaves : Leaves run.Post (λ κs s. s.1.0.now)
-run_leaves κs a x y s t p q = p.1 ∙ sym q.1
+run_leaves = call.run_leaves
 
 pub run_packed_determined : Determined run_packed.Post
-run_packed_determined κs a x y s t p q = p.0 ∙ sym q.0
+run_packed_determined = call.run_packed_determined
 
 pub run_packed_leaves : Leaves run_packed.Post (λ κs s. s.1.0.now)
-run_packed_leaves κs a x y s t p q = p.1 ∙ sym q.1
+run_packed_leaves = call.run_packed_leaves
 
 pub watch_run_determined : Determined watch_run.Post
-watch_run_determined κs a x y s t p q = p.0 ∙ sym q.0
+watch_run_determined = call.watch_run_determined
 
 pub watch_run_leaves : Leaves watch_run.Post (λ κs s. s.1.0.now)
-watch_run_leaves κs a x y s t p q = p.1 ∙ sym q.1
+watch_run_leaves = call.watch_run_leaves
