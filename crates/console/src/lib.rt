@@ -1,6 +1,7 @@
 // What the programs share: their arguments, what they write, and a failure told on standard error.
 #![tactic(auto)]
 
+ghost use Rattle.std.specs.Prelude.{◌≡◌, is_ok};
 ghost use Rattle.console.specs.Counts.{IsPrefixLen};
 
 use std::env::{Env, FillError};
@@ -40,6 +41,19 @@ pub fn fail(rt: &impl Eprint, what: &str, error: io::Error) {
         None => words,
     };
     let _ = rt.eprintln(format_args!("{what}: {reason}"));
+}
+
+// Whether it was done; where not, that is told behind the words that name what failed.
+pub fn is_done(rt: &impl Eprint, what: &str, done: io::Result<()>) -> bool
+    ensures { result ≡ is_ok done }
+{
+    match done {
+        Ok(()) => true,
+        Err(error) => {
+            fail(rt, what, error);
+            false
+        }
+    }
 }
 
 // Writes all of the bytes to standard output, or stops at the first write that takes nothing or fails. One that a signal

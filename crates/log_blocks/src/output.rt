@@ -3,7 +3,7 @@ ghost use Rattle.std.specs.Prelude.{◌≡◌};
 ghost use Rattle.journal.specs.Entries.{pair_bytes};
 
 use big_endian::store;
-use console::{fail, put};
+use console::{is_done, put};
 
 fn pair_of(first: u64, second: u64) -> [u8; 16]
     ensures { result ≡ pair_bytes first second }
@@ -17,11 +17,5 @@ fn pair_of(first: u64, second: u64) -> [u8; 16]
 // Two numbers on standard output. Answers whether they were written; where not, it has said why on standard error.
 pub fn put_pair(rt: &(impl Print + Eprint), first: u64, second: u64) -> bool {
     let bytes = pair_of(first, second);
-    match put(rt, &bytes) {
-        Ok(()) => true,
-        Err(error) => {
-            fail(rt, "log_blocks: standard output", error);
-            false
-        }
-    }
+    is_done(rt, "log_blocks: standard output", put(rt, &bytes))
 }

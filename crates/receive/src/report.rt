@@ -1,16 +1,10 @@
 // The lines that are printed. Each function answers whether all of it was written; where not, it has said why on standard error.
 use crate::totals::Said;
-use console::{fail, put, put_number};
+use console::{is_done, put, put_number};
 use std::io;
 
 fn written(rt: &impl Eprint, done: io::Result<()>) -> bool {
-    match done {
-        Ok(()) => true,
-        Err(error) => {
-            fail(rt, "receive: standard output", error);
-            false
-        }
-    }
+    is_done(rt, "receive: standard output", done)
 }
 
 // A text with a number behind it.

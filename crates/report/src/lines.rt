@@ -1,19 +1,13 @@
 // The lines that are printed. Each function answers whether all of it was written; where not, it has said why on standard error.
 ghost use Rattle.std.specs.Prelude.{◌≤◌};
 
-use console::{fail, put, put_number};
+use console::{is_done, put, put_number};
 use reception::{Report, Share};
 use refusal::Refusal;
 use std::io;
 
 fn written(rt: &impl Eprint, done: io::Result<()>) -> bool {
-    match done {
-        Ok(()) => true,
-        Err(error) => {
-            fail(rt, "report: standard output", error);
-            false
-        }
-    }
+    is_done(rt, "report: standard output", done)
 }
 
 // A text with a number behind it.

@@ -11,7 +11,7 @@ ghost use Rattle.transmit.specs.declared.blocks.Left.{Left};
 
 use blocks::{Left, after, block_sent, filler, word_of};
 use command::asked;
-use console::{fail, put};
+use console::{is_done, put};
 use record::{Edition, Record, Recorded};
 
 // What is asked for: the edition, the first minute's record, and how many minutes and damaged blocks.
@@ -36,13 +36,7 @@ enum Sent {
 
 // Tells why, where not all of it could be written.
 fn write(rt: &(impl Print + Eprint), bytes: &[u8]) -> bool {
-    match put(rt, bytes) {
-        Ok(()) => true,
-        Err(error) => {
-            fail(rt, "transmit: standard output", error);
-            false
-        }
-    }
+    is_done(rt, "transmit: standard output", put(rt, bytes))
 }
 
 fn send_block(rt: &(impl Print + Eprint), left: Left, word: u32) -> Sent

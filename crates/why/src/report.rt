@@ -1,16 +1,10 @@
 // The line that is printed. Where it could not be written, it is said why on standard error.
-use console::{fail, put, put_number};
+use console::{is_done, put, put_number};
 use std::io;
 use watch::Standing;
 
 fn written(rt: &impl Eprint, done: io::Result<()>) -> bool {
-    match done {
-        Ok(()) => true,
-        Err(error) => {
-            fail(rt, "why: standard output", error);
-            false
-        }
-    }
+    is_done(rt, "why: standard output", done)
 }
 
 // A text with the number of a bit behind it.
