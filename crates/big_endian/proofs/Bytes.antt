@@ -1,15 +1,9 @@
 -- Bytes as a number: what eight of them write fits, and a byte behind others.
 -- Assumes nothing.
-use mathlib.Core.List.{List, [], ◌∷◌, ◌++◌}
-use mathlib.Core.Path.{◌≡◌, sym, ap, ap₂, ◌∙◌}
-use Prim.Native.Nat.{ℕ, suc, ◌+◌, ◌-◌, ◌*◌, ◌%◌, ◌^◌, ◌<◌, ◌≤◌}
-use native.Mathlib.Nat.{mod-eq_of_lt}
-use native.Mathlib.Omega.{arith}
-use borrow.Author.Tests.{le-leb}
+use Rattle.std.proofs.Common.{◌≡◌, ℕ, suc, ◌+◌, ◌-◌, ◌*◌, ◌%◌, ◌^◌, ◌<◌, ◌≤◌, List, [], ◌∷◌, ◌++◌, length, get_or, take, drop, sym, ap, ap₂, ◌∙◌, add-one, mod-eq_of_lt, arith, length-take, length-drop, drop_of_length-le, drop-cons, take_all, take-suc, pow_mono, le-leb, w64}
+use Rattle.std.specs.Int.{from_be_bytes}
 use borrow.Rule.Slice.PartMut.{mid_of, put_mid, mid_len, Post-is}
-use lib.ListN.{length, get_or, take, drop, length-take, length-drop}
-use lib.Pow.{pow_mono, mod-mod-pow, mod-pow-add, high, low}
-use lib.Seq.{take_all, take-suc}
+use lib.Pow.{mod-mod-pow, mod-pow-add, high, low}
 use Rattle.big_endian.specs.Bytes.{Told, kept_behind, number_at}
 use Rattle.big_endian.specs.Digits.{digits, number}
 use Rattle.big_endian.proofs.Digits.{Below, number_lt, number_more}
@@ -30,6 +24,21 @@ module _ (s : List ℕ) (k i : ℕ) (inside : k + i ≤ length s) where
       let all = whole told (omega (arith, part_length)) in
       (all, rw all (rw part_length at told.fits))
 
+-- eight bytes, as the library reads them into a number
+module _ (bytes : List ℕ) (size : length bytes ≡ 8) where
+  from_place : (i : ℕ) → i < 8 → number 8 (drop i bytes) ≡ get_or bytes i 0 * 2 ^ (8 * (7 - i)) + number 8 (drop (i + 1) bytes)
+  unfolding number
+  from_place i h =
+      let inside : i < length bytes = omega arith in
+      let k : length (drop (suc i) bytes) ≡ 7 - i = simp length-drop (omega arith) in
+      rw (add-one, drop-cons bytes i 0 inside, k)
+
+  pub eight_read : from_be_bytes w64 bytes ≡ number 8 bytes
+  unfolding number
+  eight_read =
+      let none : number 8 (drop 8 bytes) ≡ 0 = rw (drop_of_length-le bytes {i = 8} (omega arith)) in
+      omega (arith, from_place 0 (omega arith), from_place 1 (omega arith), from_place 2 (omega arith), from_place 3 (omega arith), from_place 4 (omega arith), from_place 5 (omega arith), from_place 6 (omega arith), from_place 7 (omega arith), none)
+
 -- eight bytes from a place on
 module _ (s : List ℕ) (at : ℕ) (inside : at + 8 ≤ length s) where
   eight : at + 8 - at ≡ 8
@@ -39,9 +48,6 @@ module _ (s : List ℕ) (at : ℕ) (inside : at + 8 ≤ length s) where
   unfolding number_at
   number_there = rw (le-leb (at + 8) (length s) inside)
 
-  pub part_there : length (take (at + 8 - at) (drop at s)) ≡ 8
-  part_there = rw eight (part_length s 8 at (omega arith))
-
   -- what is told of these eight bytes, by all of them and by their number
   pub whole_there : {n : ℕ} → Told (take (at + 8 - at) (drop at s)) n → n ≡ number 8 (take 8 (drop at s))
   whole_there told = (told_part s 8 at (omega arith) (rw eight at told) (omega arith)).0
@@ -49,8 +55,14 @@ module _ (s : List ℕ) (at : ℕ) (inside : at + 8 ≤ length s) where
   pub part_told : {n : ℕ} → Told (take (at + 8 - at) (drop at s)) n → n ≡ number_at s at
   part_told told = whole_there told ∙ sym number_there
 
-  pub told_there : {n : ℕ} → n ≡ number 8 (take (at + 8 - at) (drop at s)) → n ≡ number_at s at
-  told_there told = told ∙ ap (λ (k : ℕ). number 8 (take k (drop at s))) eight ∙ sym number_there
+-- the first eight of the bytes from a place on
+pub first_there : (s : List ℕ) (at : ℕ) {rest eight : List ℕ} {n : ℕ} → rest ≡ take (length s - at) (drop at s) → length rest + at ≡ length s → 8 ≤ length rest
+    → eight ≡ take 8 rest → n ≡ from_be_bytes w64 eight → n ≡ number_at s at
+first_there s at {rest} {eight} is size enough first read =
+    let all : rest ≡ drop at s = is ∙ take_all (length s - at) (drop at s) (omega (arith, length-drop at s)) in
+    let there : eight ≡ take 8 (drop at s) = first ∙ ap (take 8) all in
+    let long : length (take 8 (drop at s)) ≡ 8 = part_length s 8 at (omega arith) in
+    read ∙ rw there (eight_read (take 8 (drop at s)) long) ∙ sym (number_there s at (omega arith))
 
 -- a number put into k bytes from a place on
 pub put_part : (s : List ℕ) (at k n : ℕ) {ys : List ℕ} → at + k ≤ length s → ys ≡ digits 8 (length (mid_of at (at + k - at) s)) n
@@ -97,9 +109,6 @@ module _ (bytes : List ℕ) (each : Each bytes) {n : ℕ} where
         kept = is ∙ ap (λ (t : List ℕ). number 8 t % 2 ^ 64) (take_all i bytes h);
         fits = number_lt 8 bytes (below_each bytes each);
       }
-
-  pub eight_told : length bytes ≡ 8 → n ≡ number 8 (take 8 bytes) % 2 ^ 64 → n ≡ number 8 bytes
-  eight_told size is = whole (all_told 8 (omega arith) is) (omega arith)
 
   pub eight_all : length bytes ≡ 8 → n ≡ number 8 bytes → Told bytes n
   eight_all size is =

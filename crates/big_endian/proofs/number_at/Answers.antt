@@ -1,31 +1,28 @@
 -- `number_at` meets its contract: 0 where there are no eight bytes, else what these write.
 -- Assumes nothing.
+use Rattle.std.proofs.Common.{◌+◌, ◌<◌, arith, length}
 use borrow.Author.Tests.{lt-leb}
-use Prim.Native.Nat.{◌+◌}
-use native.Mathlib.Omega.{arith}
-use lib.ListN.{length}
 use Rattle.big_endian.specs.Bytes.{number_at}
-use Rattle.big_endian.proofs.Bytes.{part_there, told_there}
+use Rattle.big_endian.proofs.Bytes.{first_there}
 use Rattle.big_endian.proofs.number_at.Goals as goal
 
-pub returns-then-bytes-lt8 : goal.returns-then-bytes-lt8
+pub returns-in_default : goal.returns-in_default
 unfolding number_at
-returns-then-bytes-lt8 c =
+returns-in_default c =
     let a = c.args in
-    rw (lt-leb (a.at + 8) (length a.bytes.now) (omega arith))
+    let short : length a.bytes.now < a.at + 8 = omega (arith, c.in_default.ensures.lookup) in
+    rw (lt-leb (a.at + 8) (length a.bytes.now) short)
 
-pub returns-then-bytes-at : goal.returns-then-bytes-at
+pub returns-in_default-first_chunk : goal.returns-in_default-first_chunk
 unfolding number_at
-returns-then-bytes-at c =
+returns-in_default-first_chunk c =
     let a = c.args in
-    rw (lt-leb (a.at + 8) (length a.bytes.now) (omega arith))
-
-pub number_of_eight-requires : goal.number_of_eight-requires
-number_of_eight-requires c =
-    let a = c.args in
-    part_there a.bytes.now a.at (omega arith)
+    let short : length a.bytes.now < a.at + 8 = omega (arith, c.in-Some.ensures.lookup.0.3, c.in_default-first_chunk.ensures.cases) in
+    rw (lt-leb (a.at + 8) (length a.bytes.now) short)
 
 pub returns : goal.returns
 returns c =
     let a = c.args in
-    told_there a.bytes.now a.at (omega arith) c.number_of_eight.ensures
+    let rest = c.in-Some.ensures.lookup.0 in
+    let first = c.in-Some-first_chunk.ensures.cases in
+    first_there a.bytes.now a.at rest.2 rest.3 first.enough first.same c.from_be_bytes.ensures

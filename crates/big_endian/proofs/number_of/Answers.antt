@@ -1,29 +1,26 @@
--- `number_of` meets its contract. The loop's invariant: the total is the number of the bytes that were passed, as far as it is kept.
+-- `number_of` meets its contract: eight bytes are read as one number, and else each byte comes in below those before it.
 -- Assumes nothing.
-use mathlib.Core.Path.{refl}
-use native.Mathlib.Omega.{arith}
+use Rattle.std.proofs.Common.{arith, refl, ◌∙◌}
 use Rattle.big_endian.specs.Digits.{number}
-use Rattle.big_endian.proofs.Bytes.{kept_next, all_told, eight_all}
+use Rattle.big_endian.proofs.Bytes.{kept_next, all_told, eight_all, eight_read}
 use Rattle.big_endian.proofs.number_of.Goals as goal
 
-pub number_of_eight-requires : goal.number_of_eight-requires
-number_of_eight-requires c = c.if-bytes-eq8.true
+pub returns-in-Some : goal.returns-in-Some
+returns-in-Some c =
+    let whole = c.in-Some.ensures.cases in
+    eight_all c.args.bytes.now (λ i. omega (arith, c.type_inv.bytes i)) whole.long (c.from_be_bytes.ensures ∙ rw whole.same (eight_read c.args.bytes.now whole.long))
 
-pub returns-then-bytes-eq8 : goal.returns-then-bytes-eq8
-returns-then-bytes-eq8 c =
-    eight_all c.args.bytes.now (λ i. omega (arith, c.type_inv.bytes i)) c.if-bytes-eq8.true c.number_of_eight.ensures
-
-pub loop-i-init : goal.loop-i-init
+pub loop-byte-init : goal.loop-byte-init
 unfolding number
-loop-i-init c = (refl, omega arith)
+loop-byte-init c = refl
 
-pub loop-i-preserved : goal.loop-i-preserved
-loop-i-preserved c =
-    let lp = c.loop-i in
+pub loop-byte-preserved : goal.loop-byte-preserved
+loop-byte-preserved c =
+    let lp = c.loop-byte in
     let bytes = c.args.bytes.now in
-    (kept_next bytes lp.i (omega arith) (omega (arith, c.type_inv.bytes lp.i)) lp.invariant.0 c.behind-total.ensures, omega arith)
+    kept_next bytes lp.byte-index (omega arith) (omega (arith, c.type_inv.bytes lp.byte-index)) lp.invariant c.behind-total.ensures
 
 pub returns : goal.returns
 returns c =
-    let lp = c.loop-i in
-    all_told c.args.bytes.now (λ i. omega (arith, c.type_inv.bytes i)) lp.i (omega arith) lp.invariant.0
+    let lp = c.loop-byte in
+    all_told c.args.bytes.now (λ i. omega (arith, c.type_inv.bytes i)) lp.byte-index (omega arith) lp.invariant

@@ -1,37 +1,20 @@
--- `store` meets its contract. The loop's invariant: the bytes still to be stored, before those that are, are all the bytes.
+-- `store` meets its contract: each byte goes from those to be stored to those that are.
 -- Assumes nothing.
-use mathlib.Core.List.{List, ◌++◌, append-nil}
-use mathlib.Core.Path.{refl, ap, ◌∙◌}
-use Prim.Native.Nat.{ℕ, ◌-◌, ◌%◌}
-use native.Mathlib.Omega.{arith}
-use lib.ListN.{length, length-set}
-use lib.Seq.{drop-length}
-use Rattle.big_endian.specs.Digits.{digits}
+use Rattle.std.proofs.Common.{length, arith, refl, ◌∙◌}
 use Rattle.block.proofs.Storing.{stores_one, stored_all}
+use Rattle.big_endian.specs.Digits.{digits}
 use Rattle.big_endian.proofs.Digits.{digits_last}
 use Rattle.big_endian.proofs.store.Goals as goal
-
-pub loop-k-init : goal.loop-k-init
-loop-k-init c =
-    let out = c.args.out.now in
-    let all = digits 8 (length out) c.args.number in
-    (omega arith, refl, ap (λ (l : List ℕ). all ++ l) (drop-length out) ∙ append-nil all)
 
 pub loop-k-preserved : goal.loop-k-preserved
 unfolding digits
 loop-k-preserved c =
-    let lp = c.loop-k in (
-      omega arith,
-      length-set lp.out (lp.k - 1) (lp.left % 256) ∙ lp.invariant.1,
-      stores_one 256 (digits 8) (λ n. refl) (digits_last 8) lp.out lp.k lp.left c.loop-k-test.true (omega arith) ∙ lp.invariant.2,
-    )
-
-pub shape_of-out : goal.shape_of-out
-shape_of-out c = c.loop-k.invariant.1
+    let lp = c.loop-k in
+    stores_one 256 (digits 8) (λ n. refl) (digits_last 8) lp.out lp.k lp.left c.loop-k-test.true (omega arith) ∙ lp.invariant
 
 pub returns : goal.returns
 unfolding digits
 returns c =
     let lp = c.loop-k in
     let a = c.args in
-    stored_all 256 (digits 8) (λ n. refl) (digits_last 8) lp.out (digits 8 (length a.out.now) a.number) lp.k lp.left (omega arith) lp.invariant.2
+    stored_all 256 (digits 8) (λ n. refl) (digits_last 8) lp.out (digits 8 (length a.out.now) a.number) lp.k lp.left (omega arith) lp.invariant
