@@ -2,16 +2,17 @@
 -- Assumes nothing.
 use mathlib.Core.Path.{sym, ◌∙◌}
 use Rattle.refusal.proofs.Determined.{Determined}
-use Rattle.record.proofs.edition_of.Reads as edition_of
+use Rattle.record.proofs.Zeros.{are_zeros}
+use Rattle.record.proofs.EditionTryFromU16.try_from.Reads as try_from
 use Rattle.record.proofs.read_record.Reads as read_record
 use Rattle.record.proofs.write_record.Reads as write_record
 use Rattle.record.proofs.in_range.Reads as in_range
 use Rattle.record.proofs.is_filler.Reads as is_filler
 use Rattle.record.proofs.time_in_range.Reads as time_in_range
 use Rattle.record.proofs.within.Reads as within
-use Rattle.record.proofs.zeros.Reads as zeros
+use Rattle.record.proofs.RecordDefault.default.Reads as default
 
-pub edition_of_determined : Determined edition_of.Post
+pub edition_of_determined : Determined try_from.Post
 edition_of_determined κs a x y s t p q = p ∙ sym q
 
 pub read_record_determined : Determined read_record.Post
@@ -32,5 +33,5 @@ time_in_range_determined κs a x y s t p q = p ∙ sym q
 pub within_determined : Determined within.Post
 within_determined κs a x y s t p q = p ∙ sym q
 
-pub zeros_determined : Determined zeros.Post
-zeros_determined κs a x y s t p q = p ∙ sym q
+pub default_determined : Determined default.Post
+default_determined κs a x y s t p q = are_zeros x p ∙ sym (are_zeros y q)

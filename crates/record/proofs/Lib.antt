@@ -5,4 +5,5 @@ pub mod Bounds
 pub mod Reading
 pub mod RoundTrip
 pub mod OneOfThree
+pub mod Zeros
 pub mod Determined

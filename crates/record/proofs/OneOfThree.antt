@@ -1,5 +1,6 @@
 -- A word is a filler, a record or out of range, and never two of these: reading has one answer for each.
 -- Assumes nothing.
+use Rattle.std.specs.Prelude.{Ok, Err}
 use Prim.Native.Nat.{ℕ}
 use native.Mathlib.Omega.{arith}
 use mathlib.Core.Path.{◌≡◌, refl}
@@ -10,7 +11,6 @@ use Rattle.refusal.specs.declared.Refusal.TheVariants.{NotARecord, OutOfRange}
 use Rattle.record.specs.declared.Edition.{Edition}
 use Rattle.record.specs.declared.Edition.TheVariants.{Of1984, Of1982}
 use Rattle.record.specs.declared.Record.{Record}
-use Rattle.record.specs.declared.Recorded.TheVariants.{Given, Refused}
 use Rattle.record.specs.Fields.{flag_of, fields_of}
 use Rattle.record.specs.Editions.{is_filler, filler}
 use Rattle.record.specs.Ranges.{in_range}
@@ -21,12 +21,12 @@ module _ (edition : Edition) (word : ℕ) where
   Filler = is_filler edition word ≡ true
 
   abbrev pub HoldsRecord : Type 0
-  HoldsRecord = (r : Record) × (read_of edition 0 word ≡ Given r)
+  HoldsRecord = (r : Record) × (read_of edition 0 word ≡ Ok r)
 
   abbrev pub HoldsNone : Type 0
-  HoldsNone = read_of edition 0 word ≡ Refused OutOfRange
+  HoldsNone = read_of edition 0 word ≡ Err OutOfRange
 
-  pub filler_refused : Filler → read_of edition 0 word ≡ Refused NotARecord
+  pub filler_refused : Filler → read_of edition 0 word ≡ Err NotARecord
   unfolding read_of
   filler_refused f = rw f
 

@@ -1,5 +1,6 @@
 -- Words and records, there and back: each field has its own place in the word, so joining and splitting undo each other.
 -- Assumes nothing.
+use Rattle.std.specs.Prelude.{Ok, Err}
 use Prim.Native.Nat.{ℕ, ◌+◌, ◌*◌, ◌-◌, ◌/◌, ◌^◌, ◌<◌, ◌≤◌}
 use native.Mathlib.Omega.{arith}
 use mathlib.Core.Path.{◌≡◌, refl, ap}
@@ -12,8 +13,6 @@ use Rattle.refusal.specs.declared.Refusal.TheVariants.{NotARecord, OutOfRange}
 use Rattle.record.specs.declared.Edition.{Edition}
 use Rattle.record.specs.declared.Edition.TheVariants.{Of1984, Of1982}
 use Rattle.record.specs.declared.Record.{Record}
-use Rattle.record.specs.declared.Recorded.TheVariants as recorded
-use Rattle.record.specs.declared.Worded.TheVariants as worded
 use Rattle.record.specs.Fields.{field, flag_of, offset_of, six_of, fields_of, word_of}
 use Rattle.record.specs.Editions.{is_filler}
 use Rattle.record.specs.Ranges.{offset_in_range, in_range}
@@ -81,20 +80,20 @@ word_back word h =
 
 -- ---- the calls
 
-not_word : (why : Refusal) (word : ℕ) → worded.Refused why ≡ worded.Given word → ⊥
+not_word : (why : Refusal) (word : ℕ) → Err why ≡ Ok word → ⊥
 not_word why word e = let z : ◌≡◌ {A = ℕ} 0 1 = cc in omega arith
 
 -- what is written reads back as the same record, in both editions
-pub written_reads : (edition : Edition) (r : Record) (word : ℕ) → written_of r ≡ worded.Given word → read_of edition 0 word ≡ recorded.Given r
+pub written_reads : (edition : Edition) (r : Record) (word : ℕ) → written_of r ≡ Ok word → read_of edition 0 word ≡ Ok r
 unfolding written_of
 written_reads edition r word w =
-    let c = chosen (in_range r) (worded.Given (word_of r)) (worded.Refused OutOfRange) (worded.Given word) (not_word OutOfRange word) w in
+    let c = chosen (in_range r) (Ok (word_of r)) (Err OutOfRange) (Ok word) (not_word OutOfRange word) w in
     let same : word_of r ≡ word = cc in
     let b = bounds r c.0 in
     rw (← same, read_fields edition 0 (word_of r) refl (not_filler edition r b) (flag_zero r b), fields_back r b, c.0)
 
 -- whatever reads as a record is the word that the writer writes for it
-pub read_writes : (edition : Edition) (code word : ℕ) (r : Record) → word < 2 ^ 32 → read_of edition code word ≡ recorded.Given r → written_of r ≡ worded.Given word
+pub read_writes : (edition : Edition) (code word : ℕ) (r : Record) → word < 2 ^ 32 → read_of edition code word ≡ Ok r → written_of r ≡ Ok word
 unfolding written_of read_of
 read_writes edition code word r h given =
     let refused = not_given NotARecord r in

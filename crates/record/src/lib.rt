@@ -2,33 +2,40 @@
 // specification (document 02, No. 3).
 #![tactic(auto)]
 
-ghost use Rattle.std.specs.Prelude.{◌≡◌, true, ◌+◌, ◌<◌};
+ghost use Rattle.std.specs.Prelude.{◌≡◌, true, ◌+◌, ◌<◌, Err};
 ghost use Rattle.record.specs.Editions.{edition_of, is_filler};
 ghost use Rattle.record.specs.Fields.{flag_of, offset_of, six_of, fields_of, word_of};
-ghost use Rattle.record.specs.Given.{zero_record};
 ghost use Rattle.record.specs.Ranges.{within, offset_in_range, time_in_range, kind_in_range, day_in_range, in_range};
 ghost use Rattle.record.specs.Words.{read_of, written_of};
-ghost use Rattle.record.specs.declared.Recorded.TheVariants.{Refused};
 
 use refusal::Refusal;
 
 // The specification that a sender follows.
-#[derive(Clone, Copy, Drop)]
+#[derive(Clone, Copy)]
 pub enum Edition {
     Of1984,
     Of1982,
 }
 
-// The edition that a number names, or why there is none.
-#[derive(Drop)]
-pub enum Named {
-    Given(Edition),
-    Refused(Refusal),
+// A caller names an edition by its year.
+impl TryFrom<u16> for Edition {
+    type Error = Refusal;
+
+    ghost try_from_gives = { λ number named. named ≡ edition_of number };
+
+    #[tactic(auto, unfolding(crate::specs::Editions::edition_of))]
+    fn try_from(number: u16) -> Result<Edition, Refusal> {
+        match number {
+            1984 => Ok(Edition::Of1984),
+            1982 => Ok(Edition::Of1982),
+            _ => Err(Refusal::OutOfRange),
+        }
+    }
 }
 
-// A minute in UTC as it is sent: the kind of its year, its week and weekday, its time.
+// A minute in UTC as it is sent: the kind of its year, its week and weekday, its time. Zeros stand where there is none.
 #[repr(C)]
-#[derive(Clone, Copy, Drop)]
+#[derive(Clone, Copy, Default, PartialEq, Eq)]
 pub struct Record {
     // How near a leap year is, by the edition's code.
     pub leap: u8,
@@ -43,71 +50,29 @@ pub struct Record {
     pub offset: i8,
 }
 
-// A record, or why there is none.
-#[derive(Drop)]
-pub enum Recorded {
-    Given(Record),
-    Refused(Refusal),
-}
-
-// A word, or why there is none.
-#[derive(Drop)]
-pub enum Worded {
-    Given(u32),
-    Refused(Refusal),
-}
-
-// The record that stands where there is none.
-pub fn zeros() -> Record
-    ensures { result ≡ zero_record }
-{
-    Record {
-        leap: 0,
-        start_day: 0,
-        week: 0,
-        weekday: 0,
-        hour: 0,
-        minute: 0,
-        offset: 0,
-    }
-}
-
-// The edition of 1984 or of 1982.
-pub fn edition_of(number: u16) -> Named
-    ensures { result ≡ edition_of number }
-{
-    if number == 1984 {
-        return Named::Given(Edition::Of1984);
-    }
-    if number == 1982 {
-        return Named::Given(Edition::Of1982);
-    }
-    Named::Refused(Refusal::OutOfRange)
-}
-
 // The record in the word of a block with this code.
-pub fn read_record(edition: Edition, code: u8, word: u32) -> Recorded
+pub fn read_record(edition: Edition, code: u8, word: u32) -> Result<Record, Refusal>
     ensures { result ≡ read_of edition code word }
 {
     // Most blocks that a receiver meets go here, by one test: they are of another code, or have their first bit set.
     if code as u32 + word / 2147483648 != 0 {
-        return Recorded::Refused(no_record(edition, code, word));
+        return Err(no_record(edition, code, word));
     }
     if is_filler(edition, word) {
-        return Recorded::Refused(Refusal::NotARecord);
+        return Err(Refusal::NotARecord);
     }
     let record = fields(word);
     if in_range(record) {
-        Recorded::Given(record)
+        Ok(record)
     } else {
-        Recorded::Refused(Refusal::OutOfRange)
+        Err(Refusal::OutOfRange)
     }
 }
 
 // Why there is no record in a block of another code than 0, or with its first bit set.
 fn no_record(edition: Edition, code: u8, word: u32) -> Refusal
     requires { code + flag_of word ≡ 0 → ⊥ }
-    ensures { read_of edition code word ≡ Refused result }
+    ensures { read_of edition code word ≡ Err result }
 {
     if code != 0 {
         return Refusal::NotARecord;
@@ -130,73 +95,55 @@ pub fn is_filler(edition: Edition, word: u32) -> bool
 }
 
 // The word that carries the record, the same in both editions.
-pub fn write_record(record: Record) -> Worded
+pub fn write_record(record: Record) -> Result<u32, Refusal>
     ensures { result ≡ written_of «record» }
 {
     if in_range(record) {
-        Worded::Given(word_of(record))
+        Ok(word_of(record))
     } else {
-        Worded::Refused(Refusal::OutOfRange)
+        Err(Refusal::OutOfRange)
     }
 }
 
 // Each field lies in its range.
+#[tactic(auto, unfolding(crate::specs::Ranges::in_range))]
 pub fn in_range(record: Record) -> bool
     ensures { result ≡ in_range «record» }
 {
-    if kind_in_range(record.leap, record.start_day) {
-        if day_in_range(record.week, record.weekday) {
-            time_in_range(record.hour, record.minute, record.offset)
-        } else {
-            false
-        }
-    } else {
-        false
-    }
+    kind_in_range(record.leap, record.start_day)
+        && day_in_range(record.week, record.weekday)
+        && time_in_range(record.hour, record.minute, record.offset)
 }
 
 // The fields that a date carries too lie in their ranges.
+#[tactic(auto, unfolding(crate::specs::Ranges::time_in_range))]
 pub fn time_in_range(hour: u8, minute: u8, offset: i8) -> bool
     ensures { result ≡ time_in_range hour minute offset }
 {
-    if 23 < hour {
-        return false;
-    }
-    if 59 < minute {
-        return false;
-    }
-    offset_in_range(offset)
+    hour <= 23 && minute <= 59 && offset_in_range(offset)
 }
 
 // The kind of the year.
+#[tactic(auto, unfolding(crate::specs::Ranges::kind_in_range))]
 fn kind_in_range(leap: u8, start_day: u8) -> bool
     ensures { result ≡ kind_in_range leap start_day }
 {
-    if 3 < leap {
-        return false;
-    }
-    within(1, start_day as u16, 7)
+    leap <= 3 && within(1, start_day as u16, 7)
 }
 
 // The day in the year.
+#[tactic(auto, unfolding(crate::specs::Ranges::day_in_range))]
 fn day_in_range(week: u8, weekday: u8) -> bool
     ensures { result ≡ day_in_range week weekday }
 {
-    if within(1, week as u16, 53) {
-        within(1, weekday as u16, 7)
-    } else {
-        false
-    }
+    within(1, week as u16, 53) && within(1, weekday as u16, 7)
 }
 
 // n lies from low to high.
 pub fn within(low: u16, n: u16, high: u16) -> bool
     ensures { result ≡ within low n high }
 {
-    if n < low {
-        return false;
-    }
-    n <= high
+    (low..=high).contains(&n)
 }
 
 fn offset_in_range(offset: i8) -> bool
