@@ -1,77 +1,91 @@
 // What the programs share: their arguments, what they write, and a failure told on standard error.
 #![tactic(auto)]
 
-ghost use Rattle.std.specs.Prelude.{◌≡◌, is_ok};
-ghost use Rattle.console.specs.Counts.{IsPrefixLen};
+ghost use Rattle.std.specs.Prelude.{◌≡◌, ◌≤◌, is_ok, length};
 
 use std::env::{Env, FillError};
 use std::fmt::InlineText;
 use std::io::{self, ErrorKind};
 
-// How many arguments the program was started with, its own name among them.
-pub fn argument_count(rt: &impl Env) -> usize {
-    let mut count: usize = 0;
-    for i in 0..usize::MAX {
-        let mut none = [0u8; 0];
-        if let Err(FillError::NotPresent) = rt.arg(i, &mut none) {
-            break;
-        }
-        count = i + 1;
-    }
-    count
+// Which of a program's streams failed, and why.
+#[derive(Drop)]
+pub enum Failure {
+    Input(io::Error),
+    Output(io::Error),
 }
 
-// Puts an argument at the front of the buffer and answers its length: 0 where it is missing or longer than the buffer.
-pub fn argument(rt: &impl Env, i: usize, buffer: &mut [u8]) -> usize
-    ensures { IsPrefixLen result buffer.new }
+// How many arguments the program was started with, its own name among them.
+pub fn argument_count(rt: &impl Env) -> usize {
+    for i in 0..usize::MAX {
+        if let Err(FillError::NotPresent) = rt.arg(i, &mut []) {
+            return i;
+        }
+    }
+    usize::MAX
+}
+
+// An argument, at the front of the buffer: none of it where it is missing or longer than the buffer.
+pub fn argument<'a>(rt: &impl Env, i: usize, buffer: &'a mut [u8]) -> &'a [u8]
+    ensures { length result.now ≤ length buffer.old }
 {
     match rt.arg(i, buffer) {
-        Ok(n) => n,
-        Err(_) => 0,
+        Ok(n) => &buffer[..n],
+        Err(_) => &[],
     }
 }
 
 // A line on standard error: what failed, and why, in the system's words alone. Where standard error takes nothing there is nowhere
 // else to tell it.
-pub fn fail(rt: &impl Eprint, what: &str, error: io::Error) {
+fn fail(rt: &impl Eprint, program: &str, failure: Failure) {
+    let (stream, error) = match failure {
+        Failure::Input(error) => ("standard input", error),
+        Failure::Output(error) => ("standard output", error),
+    };
     let text = InlineText::<256>::of(error);
     let words = text.as_str();
     let reason = match words.split_once(" (os error ") {
         Some((reason, _)) => reason,
         None => words,
     };
-    let _ = rt.eprintln(format_args!("{what}: {reason}"));
+    let _ = eprintln!(rt; "{program}: {stream}: {reason}");
 }
 
-// Whether it was done; where not, that is told behind the words that name what failed.
-pub fn is_done(rt: &impl Eprint, what: &str, done: io::Result<()>) -> bool
+// Whether it was done; where not, that is told behind the program's name.
+pub fn is_done(rt: &impl Eprint, program: &str, done: Result<(), Failure>) -> bool
     ensures { result ≡ is_ok done }
 {
     match done {
         Ok(()) => true,
-        Err(error) => {
-            fail(rt, what, error);
+        Err(failure) => {
+            fail(rt, program, failure);
             false
         }
     }
 }
 
 // Writes all of the bytes to standard output, or stops at the first write that takes nothing or fails. One that a signal
-// interrupted has failed.
-pub fn put(rt: &impl Print, bytes: &[u8]) -> io::Result<()> {
-    let mut done = 0;
-    while done < bytes.len() {
-        let n = rt.write_some(&bytes[done..])?;
+// interrupted has failed, where the library's would take it up again.
+pub fn put(rt: &impl Print, bytes: &[u8]) -> Result<(), Failure> {
+    let mut rest = bytes;
+    while !rest.is_empty() {
+        let n = rt.write_some(rest).map_err(Failure::Output)?;
         if n == 0 {
-            return Err(io::Error::from(ErrorKind::WriteZero));
+            return Err(Failure::Output(io::Error::from(ErrorKind::WriteZero)));
         }
-        done += n;
+        rest = &rest[n..];
     }
     Ok(())
 }
 
-// A number in decimal, on standard output.
-pub fn put_number(rt: &impl Print, n: u64) -> io::Result<()> {
+// A text with a number in decimal behind it.
+pub fn put_number(rt: &impl Print, text: &str, n: u64) -> Result<(), Failure> {
+    put(rt, text.as_bytes())?;
     let digits = InlineText::<20>::of(n);
     put(rt, digits.as_str().as_bytes())
+}
+
+// The same with the end of the line behind it.
+pub fn put_line(rt: &impl Print, text: &str, n: u64) -> Result<(), Failure> {
+    put_number(rt, text, n)?;
+    put(rt, b"\n")
 }
