@@ -1,7 +1,7 @@
 -- Characters of the input, and the bits that they are (01, "The receiver program").
 -- Assumes nothing.
-use Rattle.std.specs.Prelude.{ℕ, Bool, true, false, cond, List, [], ◌∷◌, ◌++◌, ◌≡◌, eqb, length, drop}
-use Rattle.input.specs.declared.Picked.{Picked}
+use Rattle.std.specs.Prelude.{ℕ, Bool, true, false, cond, List, [], ◌∷◌, ◌≡◌, eqb}
+use Rattle.input.specs.declared.Piece.{Piece}
 
 -- the characters that mean something: 0, 1 and newline
 abbrev pub nought : ℕ
@@ -28,8 +28,7 @@ meant (c ∷ cs) =
     cond (eqb c newline) (meant cs)
     (cond (eqb c nought) (before 0 (meant cs)) (cond (eqb c one) (before 1 (meant cs)) (record { bits = []; goes_on = false })))
 
--- what was picked from the characters at the front of a buffer: their bits stand there now, and the bytes behind are as they were
-pub record Picks (characters entry : List ℕ) (p : Picked) (exit : List ℕ) : Type 0 where
-  pub count : p.bits ≡ length (meant characters).bits
+-- what was picked from characters: their bits, and whether the input goes on behind them
+pub record Picks (characters : List ℕ) (p : Piece) : Type 0 where
+  pub bits : p.bits.now ≡ (meant characters).bits
   pub more : p.more ≡ (meant characters).goes_on
-  pub bytes : exit ≡ (meant characters).bits ++ drop p.bits entry

@@ -1,12 +1,8 @@
--- `read_bits` meets its contract: what was picked are bits, whatever was read, and where nothing was read there are none.
+-- `read_bits` meets its contract: what was picked are bits, whatever was read.
 -- Assumes nothing.
-use borrow.Author.Rules.{rules}
-use mathlib.Core.Path.{sym}
-use Rattle.block.proofs.Strings.{not_true}
-use Rattle.input.proofs.Picking.{front_bits, counts}
+use Rattle.std.proofs.Common.{arith, length-take}
+use Rattle.input.proofs.Picking.{reads_picked}
 use Rattle.input.proofs.read_bits.Goals as goal
 
-pub returns : goal.returns
-returns g c =
-    let picked = c.pick_bits-picked.ensures in
-    record { size = search rules; count = counts _ _ _ _ picked; bits = front_bits _ _ _ _ picked; failed = λ e. absurd (not_true (sym e)) }
+pub returns-in-Ok : goal.returns-in-Ok
+returns-in-Ok g c = reads_picked _ _ _ c.pick_bits.ensures (omega (arith, length-take c.in-Ok.n c.read.new.buf))
