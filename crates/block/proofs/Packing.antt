@@ -1,37 +1,22 @@
 -- What packing and writing a number answer says what the slice or the code was, so that reading and writing go on from there.
 -- Assumes nothing.
+use Rattle.std.specs.Prelude.{Ok, Err}
 use mathlib.Core.Bool.{Bool, true, false}
 use mathlib.Core.List.{List}
 use mathlib.Core.Path.{◌≡◌, refl, sym, ap, ◌∙◌, subst}
 use Prim.Native.Nat.{ℕ, ◌<◌, ◌^◌}
-use native.Mathlib.Omega.{arith}
 use borrow.Author.Tests.{eq-eqb, eqb-true, eqb-false}
 use lib.Dec.{eqb, ltb}
 use lib.ListN.{length}
 use Rattle.refusal.specs.declared.Refusal.{Refusal}
-use Rattle.refusal.specs.declared.Refusal.TheVariants.{NotABit, OutOfRange}
+use Rattle.refusal.specs.declared.Refusal.TheVariants.{OutOfRange}
 use Rattle.block.specs.Bits.{Bits, are_bits, bits_of, value}
 use Rattle.block.specs.Block.{block_of}
 use Rattle.block.specs.Packed.{write_packed, pack_of, number_packed}
-use Rattle.block.specs.Read.{read_of}
-use Rattle.block.specs.declared.Packed.{Packed}
-use Rattle.block.specs.declared.Packed.TheVariants.{Number, Refused}
-use Rattle.block.specs.declared.Read.TheVariants as read
+use Rattle.block.specs.Read.{read_of, refused}
 use Rattle.block.proofs.Reading.{wrong_length, not_a_bit}
 use Rattle.block.proofs.RoundTrip.{written_good}
 use Rattle.block.proofs.Strings.{are_bits_lem, bits_are, bits_of_val, val_lt}
-
--- a number is no refusal, and two refusals that are the same have the same reason
-abbrev taken : Packed → ℕ
-taken (Number n) = 1
-taken (Refused why) = 0
-
-abbrev reason : Packed → Refusal
-reason (Number n) = NotABit
-reason (Refused why) = why
-
-pub not_refused : {n : ℕ} {why : Refusal} → Number n ≡ Refused why → ⊥
-not_refused e = let z : ◌≡◌ {A = ℕ} 1 0 = ap taken e in omega arith
 
 -- ---- packing
 
@@ -42,26 +27,26 @@ pub record Packs (s : List ℕ) (n : ℕ) : Type 0 where
   pub number : value s ≡ n
 
 module _ (s : List ℕ) where
-  pub packs : (n : ℕ) → pack_of s ≡ Number n → Packs s n
+  pub packs : (n : ℕ) → pack_of s ≡ Ok n → Packs s n
   unfolding pack_of
   packs n e = by (eqb (length s) 50) (are_bits s) refl refl
     where
       by : (size bits : Bool) → eqb (length s) 50 ≡ size → are_bits s ≡ bits → Packs s n
-      by true true k b = let d : Number (value s) ≡ Number n = rw (k, b) at e in record { size = eqb-true (length s) 50 k; bits = are_bits_lem s b; number = ap number_packed d }
-      by true false k b = absurd (not_refused (sym (rw (k, b) at e)))
-      by false bits k b = absurd (not_refused (sym (rw k at e)))
+      by true true k b = let d : Ok (value s) ≡ Ok n = rw (k, b) at e in record { size = eqb-true (length s) 50 k; bits = are_bits_lem s b; number = ap number_packed d }
+      by true false k b = let d = rw (k, b) at e in cc
+      by false bits k b = let d = rw k at e in cc
 
-  pub packs_not : (why : Refusal) → pack_of s ≡ Refused why → read_of s ≡ read.Refused why 0
+  pub packs_not : (why : Refusal) → pack_of s ≡ Err why → read_of s ≡ refused why 0
   unfolding pack_of
   packs_not why e = by (eqb (length s) 50) (are_bits s) refl refl
     where
-      by : (size bits : Bool) → eqb (length s) 50 ≡ size → are_bits s ≡ bits → read_of s ≡ read.Refused why 0
-      by true true k b = absurd (not_refused (rw (k, b) at e))
-      by true false k b = sym (not_a_bit s (eqb-true (length s) 50 k) b) ∙ ap (λ (p : Packed). read.Refused (reason p) 0) (rw (k, b) at e)
-      by false bits k b = sym (wrong_length s (eqb-false (length s) 50 k)) ∙ ap (λ (p : Packed). read.Refused (reason p) 0) (rw k at e)
+      by : (size bits : Bool) → eqb (length s) 50 ≡ size → are_bits s ≡ bits → read_of s ≡ refused why 0
+      by true true k b = let d = rw (k, b) at e in cc
+      by true false k b = sym (not_a_bit s (eqb-true (length s) 50 k) b) ∙ (let d = rw (k, b) at e in cc)
+      by false bits k b = sym (wrong_length s (eqb-false (length s) 50 k)) ∙ (let d = rw k at e in cc)
 
   -- fifty bits do pack, into fifty places of the number
-  pub packs_bits : length s ≡ 50 → Bits s → pack_of s ≡ Number (value s)
+  pub packs_bits : length s ≡ 50 → Bits s → pack_of s ≡ Ok (value s)
   unfolding pack_of
   packs_bits l h = rw (eq-eqb (length s) 50 l, bits_are s h)
 
@@ -72,7 +57,7 @@ module _ (s : List ℕ) where
 
 module _ (code word : ℕ) where
   -- a code was written, and the number's bits are its block
-  pub writes : (n : ℕ) → write_packed code word ≡ Number n → (ltb code 16 ≡ true) × (n < 2 ^ 50) × (bits_of 50 n ≡ block_of code word)
+  pub writes : (n : ℕ) → write_packed code word ≡ Ok n → (ltb code 16 ≡ true) × (n < 2 ^ 50) × (bits_of 50 n ≡ block_of code word)
   writes n e = by (ltb code 16) refl
     where
       by : (t : Bool) → ltb code 16 ≡ t → (ltb code 16 ≡ true) × (n < 2 ^ 50) × (bits_of 50 n ≡ block_of code word)
@@ -80,11 +65,11 @@ module _ (code word : ℕ) where
           let g = written_good code word in
           let d : value (block_of code word) ≡ n = ap number_packed (rw k at e) in
           (k, rw (← d) (fifty_lt (block_of code word) g.size g.bits), rw (← d) (bits_of_val 50 (block_of code word) g.bits g.size))
-      by false k = absurd (not_refused (sym (rw k at e)))
+      by false k = let d = rw k at e in cc
 
-  pub writes_not : (why : Refusal) → write_packed code word ≡ Refused why → (ltb code 16 ≡ false) × (why ≡ OutOfRange)
+  pub writes_not : (why : Refusal) → write_packed code word ≡ Err why → (ltb code 16 ≡ false) × (why ≡ OutOfRange)
   writes_not why e = by (ltb code 16) refl
     where
       by : (t : Bool) → ltb code 16 ≡ t → (ltb code 16 ≡ false) × (why ≡ OutOfRange)
-      by true k = absurd (not_refused (rw k at e))
-      by false k = (k, sym (ap reason (rw k at e)))
+      by true k = let d = rw k at e in cc
+      by false k = let d = rw k at e in (k, cc)

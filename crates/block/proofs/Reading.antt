@@ -15,39 +15,38 @@ use Rattle.block.specs.Bits.{Bits, are_bits, bits_of, value}
 use Rattle.block.specs.Division.{remainder}
 use Rattle.block.specs.Block.{Good, prefix_in, code_in, word_in, check_in, body_in, check_of}
 use Rattle.block.specs.Packed.{read_packed, read_by}
-use Rattle.block.specs.Read.{read_of}
-use Rattle.block.specs.declared.Read.TheVariants.{Block, Refused}
+use Rattle.block.specs.Read.{carried, read_of, refused}
 use Rattle.block.proofs.Strings.{next, parts, are_bits_lem, bits_are, bits_at, bits_take, bits_drop, bits_bits_of, length_bits_of, bits_of_first, bits_of_val, val_bits_of, val_cons, val_lt, val_top, val_low}
 use Rattle.block.proofs.CheckWord.{check_none, none_check, good_rem}
 use Rattle.block.proofs.Inverted.{without}
 
 module _ (s : List ℕ) where
-  pub wrong_length : (length s ≡ 50 → ⊥) → Refused WrongLength 0 ≡ read_of s
+  pub wrong_length : (length s ≡ 50 → ⊥) → refused WrongLength 0 ≡ read_of s
   unfolding read_of
   wrong_length h = simp (ne_eqb (length s) 50 h)
 
   module _ (l : length s ≡ 50) where
-    pub not_a_bit : are_bits s ≡ false → Refused NotABit 0 ≡ read_of s
+    pub not_a_bit : are_bits s ≡ false → refused NotABit 0 ≡ read_of s
     unfolding read_of
     not_a_bit h = simp (eq-eqb (length s) 50 l, h)
 
     module _ (a : are_bits s ≡ true) where
-      pub wrong_prefix : (prefix_in s ≡ 1 → ⊥) → Refused WrongPrefix 0 ≡ read_of s
+      pub wrong_prefix : (prefix_in s ≡ 1 → ⊥) → refused WrongPrefix 0 ≡ read_of s
       unfolding read_of
       wrong_prefix h = simp (eq-eqb (length s) 50 l, a, ne_eqb (prefix_in s) 1 h)
 
       module _ (p : prefix_in s ≡ 1) where
-        pub wrong_check_word : (remainder (drop 1 s) ≡ 0 → ⊥) → Refused WrongCheckWord (remainder (drop 1 s)) ≡ read_of s
+        pub wrong_check_word : (remainder (drop 1 s) ≡ 0 → ⊥) → refused WrongCheckWord (remainder (drop 1 s)) ≡ read_of s
         unfolding read_of
         wrong_check_word h =
             simp (eq-eqb (length s) 50 l, a, eq-eqb (prefix_in s) 1 p, ne_eqb (value (check_in s)) (check_of (body_in s)) (λ e. h (check_none s l (are_bits_lem s a) e)), without s p)
 
-        pub a_block : remainder (drop 1 s) ≡ 0 → Block (value (code_in s)) (value (word_in s)) ≡ read_of s
+        pub a_block : remainder (drop 1 s) ≡ 0 → carried (value (code_in s)) (value (word_in s)) ≡ read_of s
         unfolding read_of
         a_block h =
             simp (eq-eqb (length s) 50 l, a, eq-eqb (prefix_in s) 1 p, eq-eqb (value (check_in s)) (check_of (body_in s)) (none_check s l (are_bits_lem s a) h))
 
-pub good_reads : (s : List ℕ) → Good s → Block (value (code_in s)) (value (word_in s)) ≡ read_of s
+pub good_reads : (s : List ℕ) → Good s → carried (value (code_in s)) (value (word_in s)) ≡ read_of s
 good_reads s g = a_block s g.size (bits_are s g.bits) g.prefix (good_rem s g)
 
 -- the number of all fifty bits holds the prefix above the code above the word above the check word
@@ -85,8 +84,8 @@ module _ (s : List ℕ) (l : length s ≡ 50) (a : are_bits s ≡ true) (n left 
   prefix : leb (2 ^ 49) n ≡ true → prefix_in s ≡ 1
   prefix k = prefix_one s l (are_bits_lem s a) (omega (arith, leb-true (2 ^ 49) n k))
 
-  said : Block (n / 2 ^ 45 % 16) (n / 2 ^ 13 % 2 ^ 32) ≡ Block (value (code_in s)) (value (word_in s))
-  said = ap₂ Block (ap (λ (m : ℕ). m / 2 ^ 45 % 16) e ∙ code_in_lem s l (are_bits_lem s a)) (ap (λ (m : ℕ). m / 2 ^ 13 % 2 ^ 32) e ∙ word_in_lem s l (are_bits_lem s a))
+  said : carried (n / 2 ^ 45 % 16) (n / 2 ^ 13 % 2 ^ 32) ≡ carried (value (code_in s)) (value (word_in s))
+  said = ap₂ carried (ap (λ (m : ℕ). m / 2 ^ 45 % 16) e ∙ code_in_lem s l (are_bits_lem s a)) (ap (λ (m : ℕ). m / 2 ^ 13 % 2 ^ 32) e ∙ word_in_lem s l (are_bits_lem s a))
 
   by_number : read_by n left ≡ read_of s
   unfolding read_by
@@ -94,7 +93,7 @@ module _ (s : List ℕ) (l : length s ≡ 50) (a : are_bits s ≡ true) (n left 
     where
       by : (high none : Bool) → leb (2 ^ 49) n ≡ high → eqb left 0 ≡ none → read_by n left ≡ read_of s
       by false none k z = rw k (wrong_prefix s l a (λ p. omega (arith, e, p, leb-false (2 ^ 49) n k, prefix_in_lem s l (are_bits_lem s a))))
-      by true false k z = rw (k, z) (ap (Refused WrongCheckWord) d ∙ wrong_check_word s l a (prefix k) (λ q. eqb-false left 0 z (d ∙ q)))
+      by true false k z = rw (k, z) (ap (refused WrongCheckWord) d ∙ wrong_check_word s l a (prefix k) (λ q. eqb-false left 0 z (d ∙ q)))
       by true true k z = rw (k, z) (said ∙ a_block s l a (prefix k) (sym d ∙ eqb-true left 0 z))
 
 pub number_reads : (n : ℕ) → n < 2 ^ 50 → read_by n (remainder (bits_of 49 n)) ≡ read_of (bits_of 50 n)
@@ -104,7 +103,7 @@ number_reads n h =
 
 -- ---- as one number
 
-pub wide : (n : ℕ) → 2 ^ 50 ≤ n → Refused NumberTooWide 0 ≡ read_packed n
+pub wide : (n : ℕ) → 2 ^ 50 ≤ n → refused NumberTooWide 0 ≡ read_packed n
 unfolding read_packed
 wide n h = rw (le-ltb n (2 ^ 50) h)
 

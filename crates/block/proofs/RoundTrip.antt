@@ -8,8 +8,7 @@ use lib.ListN.{length, take, drop, length-append}
 use lib.Seq.{take_at, drop_at}
 use Rattle.block.specs.Bits.{Bits, bits_of, value, zeros}
 use Rattle.block.specs.Block.{Good, code_in, word_in, body_of, block_of, check_of}
-use Rattle.block.specs.Read.{read_of}
-use Rattle.block.specs.declared.Read.TheVariants.{Block}
+use Rattle.block.specs.Read.{carried, read_of}
 use Rattle.block.proofs.CheckWord.{check_lt}
 use Rattle.block.proofs.Reading.{good_reads}
 use Rattle.block.proofs.Strings.{bits_append, bits_bits_of, bits_of_above, bits_of_join, bits_of_up, length_bits_of, val_bits_of, val_cons, val_join}
@@ -64,16 +63,16 @@ module _ (code word : ℕ) where
       }
 
   -- the code and the word stand in their places
-  said_back : code < 16 → word < 2 ^ 32 → Block (value (code_in (block_of code word))) (value (word_in (block_of code word))) ≡ Block code word
+  said_back : code < 16 → word < 2 ^ 32 → carried (value (code_in (block_of code word))) (value (word_in (block_of code word))) ≡ carried code word
   unfolding block_of body_of
   said_back hc hw =
       let c : List ℕ = bits_of 4 code in
       let w : List ℕ = bits_of 32 word in
       let k : List ℕ = bits_of 13 (check_of (body_of code word)) in
       let e : (c ++ w) ++ k ≡ c ++ (w ++ k) = append_assoc c w k in
-      ap₂ Block (ap value (ap (take 4) e ∙ take_at c (w ++ k) 4 (length_bits_of 4 code)) ∙ val_bits_of 4 code hc)
+      ap₂ carried (ap value (ap (take 4) e ∙ take_at c (w ++ k) 4 (length_bits_of 4 code)) ∙ val_bits_of 4 code hc)
       (ap value (ap (take 32) (ap (drop 4) e ∙ drop_at c (w ++ k) 4 (length_bits_of 4 code)) ∙ take_at w k 32 (length_bits_of 32 word)) ∙ val_bits_of 32 word hw)
 
   -- what is written reads back
-  pub read_back : code < 16 → word < 2 ^ 32 → read_of (block_of code word) ≡ Block code word
+  pub read_back : code < 16 → word < 2 ^ 32 → read_of (block_of code word) ≡ carried code word
   read_back hc hw = sym (good_reads (block_of code word) written_good) ∙ said_back hc hw

@@ -2,6 +2,7 @@
 -- Assumes nothing.
 use mathlib.Core.Bool.{Bool, true, false}
 use mathlib.Core.List.{List, ◌∷◌, ◌++◌}
+use Rattle.std.specs.Prelude.{Result}
 use mathlib.Core.Path.{◌≡◌, refl, sym, ap, ap₂, ◌∙◌, subst}
 use Prim.Native.Nat.{ℕ, ◌<◌, ◌^◌}
 use native.Mathlib.Omega.{arith}
@@ -12,19 +13,19 @@ use Rattle.refusal.specs.declared.Refusal.{Refusal}
 use Rattle.refusal.specs.declared.Refusal.TheVariants.{NotABit, WrongLength, WrongPrefix, WrongCheckWord}
 use Rattle.block.specs.Bits.{Bits, are_bits, bits_of, value}
 use Rattle.block.specs.Block.{block_of, body_of, prefix_in, code_in, word_in, body_in, check_in, check_of}
-use Rattle.block.specs.Read.{must, read_of}
-use Rattle.block.specs.declared.Read.{Read}
-use Rattle.block.specs.declared.Read.TheVariants.{Block}
+use Rattle.block.specs.Read.{carried, code_read, must, read_of, word_read}
+use Rattle.block.specs.declared.Body.{Body}
+use Rattle.block.specs.declared.Refused.{Refused}
 use Rattle.block.proofs.Reading.{body_is}
 use Rattle.block.proofs.Strings.{are_bits_lem, bits_drop, bits_take, bits_of_val, next, parts, val_lt}
 
 -- a block came through a test only where the test held
-through : (t : Bool) (refusal : Refusal) (told : ℕ) (answer : Read) {code word : ℕ} → must t refusal told answer ≡ Block code word → (t ≡ true) × (answer ≡ Block code word)
+through : (t : Bool) (refusal : Refusal) (told : ℕ) (answer : Result Body Refused) {code word : ℕ} → must t refusal told answer ≡ carried code word → (t ≡ true) × (answer ≡ carried code word)
 through true refusal told answer e = (refl, e)
-through false refusal told answer e = absurd (let z : ◌≡◌ {A = ℕ} 0 1 = cc in omega arith)
+through false refusal told answer e = cc
 
-module _ (s : List ℕ) (code word : ℕ) (e : read_of s ≡ Block code word) where
-  tests : (length s ≡ 50) × Bits s × (prefix_in s ≡ 1) × (value (check_in s) ≡ check_of (body_in s)) × (Block (value (code_in s)) (value (word_in s)) ≡ Block code word)
+module _ (s : List ℕ) (code word : ℕ) (e : read_of s ≡ carried code word) where
+  tests : (length s ≡ 50) × Bits s × (prefix_in s ≡ 1) × (value (check_in s) ≡ check_of (body_in s)) × (carried (value (code_in s)) (value (word_in s)) ≡ carried code word)
   unfolding read_of
   tests =
       let size = through (eqb (length s) 50) WrongLength 0 _ e in
@@ -34,10 +35,10 @@ module _ (s : List ℕ) (code word : ℕ) (e : read_of s ≡ Block code word) wh
       (eqb-true (length s) 50 size.0, are_bits_lem s bits.0, eqb-true (prefix_in s) 1 prefix.0, eqb-true (value (check_in s)) (check_of (body_in s)) check.0, check.1)
 
   code_is : value (code_in s) ≡ code
-  code_is = let d = tests.4 in cc
+  code_is = ap code_read tests.4
 
   word_is : value (word_in s) ≡ word
-  word_is = let d = tests.4 in cc
+  word_is = ap word_read tests.4
 
   code_bits : Bits (code_in s)
   code_bits = bits_take 4 (drop 1 s) (bits_drop 1 s tests.1)

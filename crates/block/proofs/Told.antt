@@ -14,8 +14,7 @@ use Rattle.block.specs.Bits.{Bits, are_bits, bits_of, value}
 use Rattle.block.specs.Block.{prefix_in, code_in, word_in, check_in, body_in, check_of, inverted}
 use Rattle.block.specs.Division.{remainder}
 use Rattle.block.specs.Packed.{fits, read_packed}
-use Rattle.block.specs.Read.{must, read_of, remainder_read, ToldWith4}
-use Rattle.block.specs.declared.Read.TheVariants.{Block}
+use Rattle.block.specs.Read.{carried, must, read_of, remainder_read, ToldWith4}
 use Rattle.block.proofs.CheckWord.{none_check}
 use Rattle.block.proofs.Inverted.{without}
 use Rattle.block.proofs.Reading.{wrong_check_word, a_block}
@@ -49,7 +48,7 @@ module _ (s : List ℕ) where
           → eqb (value (check_in s)) (check_of (body_in s)) ≡ check
           → ToldWith4
           (must size WrongLength 0
-          (must bits NotABit 0 (must prefix WrongPrefix 0 (must check WrongCheckWord (remainder (inverted s)) (Block (value (code_in s)) (value (word_in s)))))))
+          (must bits NotABit 0 (must prefix WrongPrefix 0 (must check WrongCheckWord (remainder (inverted s)) (carried (value (code_in s)) (value (word_in s)))))))
       by false bits prefix check l a p c = (refl, omega arith)
       by true false prefix check l a p c = (refl, omega arith)
       by true true false check l a p c = (refl, omega arith)

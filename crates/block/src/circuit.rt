@@ -35,9 +35,7 @@ fn let_in(number: u64, places: u32) -> u64
     ensures { result ≡ remainder_from (number / 2 ^ places) (bits_of places number) }
 {
     let mut rest = number;
-    let mut behind = places;
-    while 0 < behind {
-        behind -= 1;
+    for behind in (0..places).rev() {
         rest = feed_back(rest, behind);
     }
     rest

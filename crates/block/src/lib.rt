@@ -14,102 +14,103 @@ use circuit::remainder;
 use memory::store;
 use refusal::Refusal;
 
-// What reading a block finds. A wrong check word tells the remainder of all fifty bits with the first inverted, any other refusal 0.
-#[derive(Clone, Copy, Drop)]
-pub enum Read {
-    Block { code: u8, word: u32 },
-    Refused { refusal: Refusal, remainder: u16 },
+// What a good block carries.
+#[derive(Clone, Copy)]
+pub struct Body {
+    pub code: u8,
+    pub word: u32,
 }
 
-// What became of writing a block.
-#[derive(Drop)]
-pub enum Written {
-    Whole,
-    Refused(Refusal),
+// Why a block is refused. A wrong check word tells the remainder of all fifty bits with the first inverted, any other refusal 0.
+#[derive(Clone, Copy)]
+pub struct Refused {
+    pub refusal: Refusal,
+    pub remainder: u16,
 }
 
-// A block as one number: the first bit in place 49, and nothing above.
-#[derive(Drop)]
-pub enum Packed {
-    Number(u64),
-    Refused(Refusal),
+impl From<Refusal> for Refused {
+    ghost from_gives = { λ refusal refused. refused ≡ record { refusal = refusal; remainder = 0 } };
+
+    fn from(refusal: Refusal) -> Refused {
+        Refused {
+            refusal,
+            remainder: 0,
+        }
+    }
 }
 
-// Which of two blocks is chosen; where neither is, why the first is refused, and the remainder that it tells.
-#[derive(Drop)]
-pub enum Choice {
+impl From<Refused> for Refusal {
+    ghost from_gives = { λ refused refusal. refusal ≡ refused.refusal };
+
+    fn from(refused: Refused) -> Refusal {
+        refused.refusal
+    }
+}
+
+// Which of two aerials' blocks is chosen.
+#[derive(Clone, Copy)]
+pub enum Aerial {
     First,
     Second,
-    Neither { refusal: Refusal, remainder: u16 },
 }
 
 // ---- as one number
 
 // The code and the word of a block's number, where the remainder of what stands behind the prefix is known. Behind a prefix 1 it is
 // that of all fifty bits with the first inverted.
-pub fn read_by(block: u64, left: u16) -> Read
+pub fn read_by(block: u64, left: u16) -> Result<Body, Refused>
     ensures { result ≡ read_by block left }
 {
     if block < 0x2_0000_0000_0000 {
-        return Read::Refused {
-            refusal: Refusal::WrongPrefix,
-            remainder: 0,
-        };
+        return Err(Refused::from(Refusal::WrongPrefix));
     }
     if left != 0 {
-        return Read::Refused {
+        return Err(Refused {
             refusal: Refusal::WrongCheckWord,
             remainder: left,
-        };
+        });
     }
     let code = (block / 0x2000_0000_0000 % 16) as u8;
     let word = (block / 0x2000 % 0x1_0000_0000) as u32;
-    Read::Block { code, word }
+    Ok(Body { code, word })
 }
 
 // The code and the word of a block.
-pub fn read_packed(block: u64) -> Read
+pub fn read_packed(block: u64) -> Result<Body, Refused>
     ensures { result ≡ read_packed block }
 {
     if 0x3_FFFF_FFFF_FFFF < block {
-        return Read::Refused {
-            refusal: Refusal::NumberTooWide,
-            remainder: 0,
-        };
+        return Err(Refused::from(Refusal::NumberTooWide));
     }
     read_by(block, remainder(block) as u16)
 }
 
-// The block of a code and a word. The prefix, the code and the word stand first, and what they leave is added below.
-pub fn write_packed(code: u8, word: u32) -> Packed
+// The block of a code and a word as one number: the first bit in place 49, and nothing above. The prefix, the code and the word stand
+// first, and what they leave is added below.
+pub fn write_packed(code: u8, word: u32) -> Result<u64, Refusal>
     ensures { result ≡ write_packed code word }
 {
     if 15 < code {
-        return Packed::Refused(Refusal::OutOfRange);
+        return Err(Refusal::OutOfRange);
     }
     let body = (code as u64) * 0x1_0000_0000 + (word as u64);
     let open = 0x2_0000_0000_0000 + body * 0x2000;
-    Packed::Number(open + (remainder(open) as u64))
+    Ok(open + (remainder(open) as u64))
 }
 
-fn between(one: Read, two: Read) -> Choice
+// Where neither is good, the first is the one whose refusal is told.
+fn between(one: Result<Body, Refused>, two: Result<Body, Refused>) -> Result<Aerial, Refused>
     ensures { result ≡ between one two }
 {
-    let Read::Refused { refusal, remainder } = one else {
-        return Choice::First;
-    };
-    let Read::Refused {
-        refusal: _,
-        remainder: _,
-    } = two
-    else {
-        return Choice::Second;
-    };
-    Choice::Neither { refusal, remainder }
+    match (one, two) {
+        (Ok(_), _) => Ok(Aerial::First),
+        (_, Ok(_)) => Ok(Aerial::Second),
+        (Err(refused), _) => Err(refused),
+    }
 }
 
 // Which of two aerials' numbers is a good block, the first before the second.
-pub fn choose_packed(first: u64, second: u64) -> Choice
+pub fn choose_packed(first: u64, second: u64) -> Result<Aerial, Refused>
     ensures { result ≡ choose_packed first second }
 {
     between(read_packed(first), read_packed(second))
@@ -118,67 +119,55 @@ pub fn choose_packed(first: u64, second: u64) -> Choice
 // ---- in memory
 
 // Any fifty bits as one number.
-pub fn pack(bits: &[u8]) -> Packed
+pub fn pack(bits: &[u8]) -> Result<u64, Refusal>
     ensures { result ≡ pack_of bits.now }
 {
     if bits.len() != 50 {
-        return Packed::Refused(Refusal::WrongLength);
+        return Err(Refusal::WrongLength);
     }
     let mut number: u64 = 0;
-    let mut i: usize = 0;
-    while i < bits.len() {
-        let bit = bits[i];
+    for &bit in bits {
         if 1 < bit {
-            return Packed::Refused(Refusal::NotABit);
+            return Err(Refusal::NotABit);
         }
         number = number * 2 + (bit as u64);
-        i += 1;
     }
-    Packed::Number(number)
+    Ok(number)
 }
 
 // The fifty bits of a number, into fifty places.
-pub fn unpack(block: u64, out: &mut [u8]) -> Written
+pub fn unpack(block: u64, out: &mut [u8]) -> Result<(), Refusal>
     ensures { (result ≡ unpack_of (length out.old) block) × (out.new ≡ unpacked_of out.old block) }
 {
     if out.len() != 50 {
-        return Written::Refused(Refusal::WrongLength);
+        return Err(Refusal::WrongLength);
     }
     if 0x3_FFFF_FFFF_FFFF < block {
-        return Written::Refused(Refusal::NumberTooWide);
+        return Err(Refusal::NumberTooWide);
     }
     store(out, block);
-    Written::Whole
+    Ok(())
 }
 
 // The code and the word of a block.
-pub fn read_block(block: &[u8]) -> Read
+pub fn read_block(block: &[u8]) -> Result<Body, Refused>
     ensures { result ≡ read_of block.now }
 {
-    match pack(block) {
-        Packed::Number(number) => read_packed(number),
-        Packed::Refused(refusal) => Read::Refused {
-            refusal,
-            remainder: 0,
-        },
-    }
+    read_packed(pack(block)?)
 }
 
 // The block of a code and a word, into fifty places.
-pub fn write_block(code: u8, word: u32, out: &mut [u8]) -> Written
+pub fn write_block(code: u8, word: u32, out: &mut [u8]) -> Result<(), Refusal>
     ensures { (result ≡ write_of (length out.old) code) × (out.new ≡ written_of out.old code word) }
 {
     if out.len() != 50 {
-        return Written::Refused(Refusal::WrongLength);
+        return Err(Refusal::WrongLength);
     }
-    match write_packed(code, word) {
-        Packed::Number(number) => unpack(number, out),
-        Packed::Refused(refusal) => Written::Refused(refusal),
-    }
+    unpack(write_packed(code, word)?, out)
 }
 
 // Which of two aerials' slices holds a good block, the first before the second.
-pub fn choose_between(first: &[u8], second: &[u8]) -> Choice
+pub fn choose_between(first: &[u8], second: &[u8]) -> Result<Aerial, Refused>
     ensures { result ≡ choice_of first.now second.now }
 {
     between(read_block(first), read_block(second))
@@ -200,22 +189,19 @@ pub fn choose<'a>(
 {
     let which = choose_between(first, second);
     match which {
-        Choice::First => {
+        Ok(Aerial::First) => {
             *number = 0;
             *remainder = 0;
             first
         }
-        Choice::Second => {
+        Ok(Aerial::Second) => {
             *number = 0;
             *remainder = 0;
             second
         }
-        Choice::Neither {
-            refusal,
-            remainder: left,
-        } => {
-            *number = refusal::number(refusal);
-            *remainder = left;
+        Err(refused) => {
+            *number = u8::from(refused.refusal);
+            *remainder = refused.remainder;
             &first[..0]
         }
     }

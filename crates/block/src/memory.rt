@@ -6,10 +6,8 @@ ghost use Rattle.block.specs.Bits.{bits_of};
 pub fn store(out: &mut [u8], number: u64)
     ensures { out.new ≡ bits_of (length out.old) number }
 {
-    let mut k = out.len();
     let mut left = number;
-    while 0 < k {
-        k -= 1;
+    for k in (0..out.len()).rev() {
         out[k] = (left % 2) as u8;
         left = left / 2;
     }

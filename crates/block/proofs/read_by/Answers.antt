@@ -8,7 +8,7 @@ use Rattle.block.proofs.read_by.Goals as goal
 
 pub returns-then-block-lt562949953421312 : goal.returns-then-block-lt562949953421312
 unfolding read_by
-returns-then-block-lt562949953421312 c = rw (lt-leb (2 ^ 49) c.args.block (omega arith))
+returns-then-block-lt562949953421312 c = rw (c.from.ensures, lt-leb (2 ^ 49) c.args.block (omega arith))
 
 pub returns-then-left-ne0 : goal.returns-then-left-ne0
 unfolding read_by

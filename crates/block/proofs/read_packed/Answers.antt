@@ -8,7 +8,7 @@ use Rattle.block.proofs.Strings.{thirteen}
 use Rattle.block.proofs.read_packed.Goals as goal
 
 pub returns-then-block-gt1125899906842623 : goal.returns-then-block-gt1125899906842623
-returns-then-block-gt1125899906842623 c = wide c.args.block (omega arith)
+returns-then-block-gt1125899906842623 c = rw c.from.ensures (wide c.args.block (omega arith))
 
 pub overflow_cast-remainder : goal.overflow_cast-remainder
 overflow_cast-remainder c = omega (arith, thirteen 49 _ c.remainder.ensures)

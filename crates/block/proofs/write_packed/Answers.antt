@@ -1,14 +1,11 @@
 -- `write_packed` meets its contract: what the prefix, the code and the word leave is the check word, added below them.
 -- Assumes nothing.
-use borrow.Author.Tests.{lt-ltb, le-ltb}
+use borrow.Author.Tests.{lt-ltb}
 use mathlib.Core.Path.{ap, ◌∙◌}
 use native.Mathlib.Omega.{arith}
 use Rattle.block.specs.Division.{remainder}
 use Rattle.block.proofs.RoundTrip.{block_number, open_body}
 use Rattle.block.proofs.write_packed.Goals as goal
-
-pub returns-then-code-gt15 : goal.returns-then-code-gt15
-returns-then-code-gt15 c = rw (le-ltb c.args.code 16 (omega arith))
 
 pub returns : goal.returns
 returns c =

@@ -14,18 +14,18 @@ ends n zero h = omega arith
 ends n (suc k) h = absurd (omega arith)
 
 pub loop-behind-init : goal.loop-behind-init
-loop-behind-init c = (omega arith, c.requires.0, refl)
+loop-behind-init c = (c.requires.0, refl)
 
 pub feed_back-rest-requires : goal.feed_back-rest-requires
 feed_back-rest-requires c =
     let lp = c.loop-behind in
-    (omega (arith, lp.invariant.0, c.requires.1), moved_lt lp.behind lp.rest c.loop-behind-test.true lp.invariant.1)
+    (omega arith, moved_lt lp.behind lp.rest c.loop-behind-test.true lp.invariant.0)
 
 pub loop-behind-preserved : goal.loop-behind-preserved
 loop-behind-preserved c =
-    let on = along c.loop-behind.behind c.loop-behind.rest c.feed_back-rest.result (omega arith) c.loop-behind.invariant.1 c.feed_back-rest.ensures in
-    (omega arith, on.0, on.1 ∙ c.loop-behind.invariant.2)
+    let on = along c.loop-behind.behind c.loop-behind.rest c.feed_back-rest.result c.loop-behind-test.true c.loop-behind.invariant.0 c.feed_back-rest.ensures in
+    (on.0, on.1 ∙ c.loop-behind.invariant.1)
 
 pub returns : goal.returns
 returns c =
-    sym (ends c.loop-behind.rest c.loop-behind.behind (omega arith)) ∙ c.loop-behind.invariant.2
+    sym (ends c.loop-behind.rest c.loop-behind.behind (omega arith)) ∙ c.loop-behind.invariant.1

@@ -2,9 +2,9 @@
 -- Assumes nothing.
 use mathlib.Core.List.{List, ◌++◌, append-nil}
 use mathlib.Core.Path.{refl, ap, ◌∙◌}
-use Prim.Native.Nat.{ℕ, ◌-◌, ◌%◌}
+use Prim.Native.Nat.{ℕ}
 use native.Mathlib.Omega.{arith}
-use lib.ListN.{length, length-set}
+use lib.ListN.{length}
 use lib.Seq.{drop-length}
 use Rattle.block.specs.Bits.{bits_of}
 use Rattle.block.proofs.Storing.{stores_one, stored_all}
@@ -14,23 +14,17 @@ pub loop-k-init : goal.loop-k-init
 loop-k-init c =
     let out = c.args.out.now in
     let all = bits_of (length out) c.args.number in
-    (omega arith, refl, ap (λ (l : List ℕ). all ++ l) (drop-length out) ∙ append-nil all)
+    ap (λ (l : List ℕ). all ++ l) (drop-length out) ∙ append-nil all
 
 pub loop-k-preserved : goal.loop-k-preserved
 unfolding bits_of
 loop-k-preserved c =
-    let lp = c.loop-k in (
-      omega arith,
-      length-set lp.out (lp.k - 1) (lp.left % 2) ∙ lp.invariant.1,
-      stores_one 2 bits_of (λ n. refl) (λ k n. refl) lp.out lp.k lp.left c.loop-k-test.true (omega arith) ∙ lp.invariant.2,
-    )
-
-pub shape_of-out : goal.shape_of-out
-shape_of-out c = c.loop-k.invariant.1
+    let lp = c.loop-k in
+    stores_one 2 bits_of (λ n. refl) (λ k n. refl) lp.out lp.k lp.left c.loop-k-test.true (omega arith) ∙ lp.invariant
 
 pub returns : goal.returns
 unfolding bits_of
 returns c =
     let lp = c.loop-k in
     let a = c.args in
-    stored_all 2 bits_of (λ n. refl) (λ k n. refl) lp.out (bits_of (length a.out.now) a.number) lp.k lp.left (omega arith) lp.invariant.2
+    stored_all 2 bits_of (λ n. refl) (λ k n. refl) lp.out (bits_of (length a.out.now) a.number) lp.k lp.left (omega arith) lp.invariant
