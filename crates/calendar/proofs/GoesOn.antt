@@ -1,11 +1,11 @@
 -- A usable record goes on without end: its next minute is there and is usable, and so is every later one.
 -- Assumes nothing.
+use Rattle.std.specs.Prelude.{Ok}
 use Prim.Native.Nat.{ℕ, zero, suc, ◌+◌, ◌≤◌}
 use native.Mathlib.Omega.{arith}
 use mathlib.Core.Path.{◌≡◌, refl, ap, ◌∙◌}
 use Rattle.record.specs.declared.Edition.{Edition}
 use Rattle.record.specs.declared.Record.{Record}
-use Rattle.record.specs.declared.Recorded.TheVariants.{Given}
 use Rattle.record.proofs.Bounds.{Bounds, bounds, in_range_lem}
 use Rattle.calendar.specs.LeapCodes.{says_leap, next_leap_code}
 use Rattle.calendar.specs.Weeks.{weeks_of}
@@ -87,12 +87,12 @@ module _ (edition : Edition) where
         (λ h k. at_time_lem (r.hour + 1) 0 (omega arith) (omega arith))
         (λ h k. next_day_lem)
 
-    pub next_given : next_minute_of edition r ≡ Given (go_on edition r)
+    pub next_given : next_minute_of edition r ≡ Ok (go_on edition r)
     unfolding next_minute_of next_after
     next_given = rw (usable_is edition r u)
 
   -- minutes later there is a usable record
-  pub later_given : (k : ℕ) (r : Record) → Usable edition r → (n : Record) × (minutes_later edition k r ≡ Given n) × Usable edition n
+  pub later_given : (k : ℕ) (r : Record) → Usable edition r → (n : Record) × (minutes_later edition k r ≡ Ok n) × Usable edition n
   unfolding minutes_later
   later_given zero r u = (r, refl, u)
   later_given (suc k) r u =

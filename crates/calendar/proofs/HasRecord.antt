@@ -1,5 +1,6 @@
 -- Which dates have records: those of 1901 to 2099, the last day of 1900, which is a Monday, and the first three of 2100, which end a week.
 -- Assumes nothing.
+use Rattle.std.specs.Prelude.{Ok, Err}
 use Prim.Native.Nat.{ℕ, ◌+◌, ◌≤◌, ◌<◌}
 use native.Mathlib.Omega.{arith}
 use mathlib.Core.Path.{◌≡◌, refl, sym, ap}
@@ -9,7 +10,6 @@ use borrow.Author.Tests.{le-leb}
 use Rattle.refusal.specs.declared.Refusal.TheVariants.{OutOfRange, WrongYear}
 use Rattle.record.specs.declared.Edition.{Edition}
 use Rattle.record.specs.declared.Record.{Record}
-use Rattle.record.specs.declared.Recorded.TheVariants.{Given, Refused}
 use Rattle.record.specs.Given.{given_record}
 use Rattle.record.specs.Ranges.{within}
 use Rattle.record.proofs.Tests.{le_or_lt}
@@ -29,7 +29,7 @@ use Rattle.calendar.proofs.Answers.{InCalendar, civil, record_is, record_given}
 -- ---- 7 is not among the answers
 
 never : (year range coded : Bool) (r : Record)
-    → (given_record (cond year (cond range (cond coded (Given r) (Refused WrongYear)) (Refused OutOfRange)) (Refused WrongYear))).0 ≡ 7
+    → (given_record (cond year (cond range (cond coded (Ok r) (Err WrongYear)) (Err OutOfRange)) (Err WrongYear))).0 ≡ 7
     → ⊥
 never false range coded r e = omega arith
 never true false coded r e = omega arith
@@ -117,7 +117,7 @@ module _ (edition : Edition) where
   unfolding record_of
   never_seven d e = never (within first_civil_year d.year last_civil_year) (date_in_range d) (within first_year_of_span (coded_year d) last_year) (record_at edition d) e
 
-  has : (d : Date) (r : Record) → record_of edition d ≡ Given r → (date_in_range d ≡ true) × Recordable d
+  has : (d : Date) (r : Record) → record_of edition d ≡ Ok r → (date_in_range d ≡ true) × Recordable d
   has d r e =
       let c = (record_given edition d r e).0 in
       let year = civil d c in
@@ -130,7 +130,7 @@ module _ (edition : Edition) where
             (le_or_lt d.year 1900),
       )
 
-  pub recorded_exactly : (d : Date) → ((r : Record) × (record_of edition d ≡ Given r)) ↔ ((date_in_range d ≡ true) × Recordable d)
+  pub recorded_exactly : (d : Date) → ((r : Record) × (record_of edition d ≡ Ok r)) ↔ ((date_in_range d ≡ true) × Recordable d)
   recorded_exactly d = (
     λ g. has d g.0 g.1,
     λ w.

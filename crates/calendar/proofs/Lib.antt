@@ -21,4 +21,5 @@ pub mod Stepping
 pub mod MinutesLater
 pub mod GoesOn
 pub mod Editions
+pub mod Zeros
 pub mod Determined

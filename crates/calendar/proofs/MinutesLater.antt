@@ -1,11 +1,11 @@
 -- So many minutes after the record of a date is the record of the date so many minutes later: each step is that of a next minute.
 -- Assumes nothing.
+use Rattle.std.specs.Prelude.{Ok}
 use Prim.Native.Nat.{ℕ, zero, suc, ◌≤◌}
 use native.Mathlib.Omega.{arith}
 use mathlib.Core.Path.{◌≡◌, sym, ap, ◌∙◌}
 use Rattle.record.specs.declared.Edition.{Edition}
 use Rattle.record.specs.declared.Record.{Record}
-use Rattle.record.specs.declared.Recorded.TheVariants.{Given}
 use Rattle.calendar.specs.declared.Date.{Date}
 use Rattle.calendar.specs.Years.{last_year, first_civil_year}
 use Rattle.calendar.specs.Dates.{coded_year, record_at, record_of}
@@ -41,7 +41,7 @@ module _ (d : Date) (c : InCalendar d) where
 
 module _ (edition : Edition) where
   -- and then the two answers are one
-  pub later_of_date : (k : ℕ) (d : Date) (r : Record) → record_of edition d ≡ Given r → coded_year (minutes_later_of_date k d) ≤ last_year
+  pub later_of_date : (k : ℕ) (d : Date) (r : Record) → record_of edition d ≡ Ok r → coded_year (minutes_later_of_date k d) ≤ last_year
       → minutes_later edition k r ≡ record_of edition (minutes_later_of_date k d)
   unfolding minutes_later minutes_later_of_date
   later_of_date zero d r e h = sym e

@@ -1,14 +1,13 @@
 -- Dates and records, there and back: both name one day, which lies in one civil and in one coded year.
 -- Assumes nothing.
+use Rattle.std.specs.Prelude.{Ok}
 use Prim.Native.Nat.{ℕ, ◌+◌, ◌*◌, ◌-◌, ◌/◌, ◌%◌, ◌≤◌, ◌<◌}
 use native.Mathlib.Omega.{arith}
 use mathlib.Core.Path.{◌≡◌, refl, ap, ◌∙◌}
 use Rattle.record.specs.declared.Edition.{Edition}
 use Rattle.record.specs.declared.Record.{Record}
-use Rattle.record.specs.declared.Recorded.TheVariants as recorded
 use Rattle.record.proofs.Bounds.{bounds as record-bounds, in_range_lem}
 use Rattle.calendar.specs.declared.Date.{Date}
-use Rattle.calendar.specs.declared.Dated.TheVariants as dated
 use Rattle.calendar.specs.LeapCodes.{leap_code}
 use Rattle.calendar.specs.Years.{first_year_of_span, last_first_year, first_civil_year, span, leap_year, new_year, start_day_of, year_from}
 use Rattle.calendar.specs.Days.{months, day_of_month, month_day}
@@ -88,15 +87,15 @@ module _ (edition : Edition) where
   -- date to record to date
   pub date_back :
       (d : Date) (r : Record) (first : ℕ) →
-      record_of edition d ≡ recorded.Given r →
+      record_of edition d ≡ Ok r →
       first_year_of_span ≤ first →
       first ≤ last_first_year →
       first ≤ coded_year d →
       coded_year d < first + span →
-      date_of edition r first ≡ dated.Given d
+      date_of edition r first ≡ Ok d
   date_back d r first e p q h k =
       let g = record_given edition d r e in
-      rw (← g.1) (date_is edition (record_at edition d) first p q (recorded_usable d g.0) ∙ ap dated.Given (date_again d g.0 first p q h k))
+      rw (← g.1) (date_is edition (record_at edition d) first p q (recorded_usable d g.0) ∙ ap Ok (date_again d g.0 first p q h k))
 
   -- ---- from a record
 
@@ -143,9 +142,9 @@ module _ (edition : Edition) where
           let weekday : since % 7 + 1 ≡ r.weekday = omega (arith, b.weekday) in
           record_on_lem edition on is_civil on_bounds y since (day_again ∙ omega arith) (omega (arith, h.to)) ∙ rw (week, weekday, k.start_day_lem, k.leap_code_lem)
 
-      written_again : record_of edition on ≡ recorded.Given r
+      written_again : record_of edition on ≡ Ok r
       written_again =
-          record_is edition on (record { from = rw coded_again k.from; to = rw coded_again k.to; bounds = on_bounds }) ∙ ap recorded.Given record_again
+          record_is edition on (record { from = rw coded_again k.from; to = rw coded_again k.to; bounds = on_bounds }) ∙ ap Ok record_again
 
     found : Found (months (leap_year Y)) 1 (n - new_year Y + 1)
     found =
@@ -153,14 +152,14 @@ module _ (edition : Edition) where
         month_found (months (leap_year Y)) 1 (n - new_year Y + 1) (omega arith)
         (rw (months_sum (leap_year Y)) (omega (arith, h.from, h.to, year_next Y is_civil)))
 
-    pub from_date : record_of edition (date_from y r) ≡ recorded.Given r
+    pub from_date : record_of edition (date_from y r) ≡ Ok r
     from_date = rw found.is (written_again found)
 
     pub day_of_date_lem : day_of_date (date_from y r) ≡ day_of_record y r
     day_of_date_lem = rw found.is (day_again found)
 
   -- record to date to record
-  pub record_back : (r : Record) (first : ℕ) (d : Date) → date_of edition r first ≡ dated.Given d → record_of edition d ≡ recorded.Given r
+  pub record_back : (r : Record) (first : ℕ) (d : Date) → date_of edition r first ≡ Ok d → record_of edition d ≡ Ok r
   unfolding date_in
   record_back r first d e =
       let g = date_given edition r first d e in

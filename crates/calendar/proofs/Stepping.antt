@@ -1,6 +1,7 @@
 -- The next minute of a date's record is the record of the date's next minute: the day moves by one, and with it the weekday, then the week,
 -- then the coded year.
 -- Assumes nothing.
+use Rattle.std.specs.Prelude.{Ok}
 use Prim.Native.Nat.{ℕ, ◌+◌, ◌*◌, ◌-◌, ◌/◌, ◌%◌, ◌≤◌, ◌<◌}
 use native.Mathlib.Omega.{arith}
 use mathlib.Core.Path.{◌≡◌, refl, sym, ap, ◌∙◌}
@@ -8,10 +9,8 @@ use mathlib.Core.Logic.{⊎_elim}
 use borrow.Author.Tests.{lt-ltb, le-ltb}
 use Rattle.record.specs.declared.Edition.{Edition}
 use Rattle.record.specs.declared.Record.{Record}
-use Rattle.record.specs.declared.Recorded.TheVariants.{Given}
 use Rattle.record.proofs.Tests.{le_or_lt}
 use Rattle.calendar.specs.declared.Date.{Date}
-use Rattle.calendar.specs.declared.Dated.TheVariants as dated
 use Rattle.calendar.specs.LeapCodes.{leap_code}
 use Rattle.calendar.specs.Years.{last_year, first_civil_year, leap_year, start_day_of}
 use Rattle.calendar.specs.Weeks.{week_one, weeks_of}
@@ -111,19 +110,19 @@ module _ (edition : Edition) where
   -- the two answers are one
   pub next_of_date_lem :
       (d : Date) (r : Record) →
-      record_of edition d ≡ Given r →
+      record_of edition d ≡ Ok r →
       coded_year (next_of_date d) ≤ last_year →
       next_minute_of edition r ≡ record_of edition (next_of_date d)
   unfolding next_minute_of next_after
   next_of_date_lem d r e h =
       let g = record_given edition d r e in
       rw (← g.1, usable_is edition (record_at edition d) (recorded_usable edition d g.0))
-      (ap Given (time_on d g.0) ∙ sym (record_is edition (next_of_date d) (next_in d g.0 h)))
+      (ap Ok (time_on d g.0) ∙ sym (record_is edition (next_of_date d) (next_in d g.0 h)))
 
   -- the same for a record and its date in any 28 years
   pub next_of_record :
       (r : Record) (first : ℕ) (d : Date) →
-      date_of edition r first ≡ dated.Given d →
+      date_of edition r first ≡ Ok d →
       coded_year (next_of_date d) ≤ last_year →
       next_minute_of edition r ≡ record_of edition (next_of_date d)
   next_of_record r first d e = next_of_date_lem d r (record_back edition r first d e)

@@ -1,14 +1,13 @@
 -- A year is made of whole weeks: within it weeks never fall, and a week that the year has has seven days, one after the other.
 -- Assumes nothing.
+use Rattle.std.specs.Prelude.{Ok}
 use Prim.Native.Nat.{ℕ, ◌+◌, ◌-◌, ◌≤◌}
 use native.Mathlib.Omega.{arith}
 use mathlib.Core.Path.{◌≡◌, sym, ap, ◌∙◌}
 use Rattle.record.specs.declared.Edition.{Edition}
 use Rattle.record.specs.declared.Record.{Record}
-use Rattle.record.specs.declared.Recorded.TheVariants.{Given}
 use Rattle.record.proofs.Bounds.{bounds, in_range_lem}
 use Rattle.calendar.specs.declared.Date.{Date}
-use Rattle.calendar.specs.declared.Dated.TheVariants as dated
 use Rattle.calendar.specs.Years.{span, year_from}
 use Rattle.calendar.specs.Dates.{date_in, date_of, day_of_date, coded_year, record_at, record_of}
 use Rattle.calendar.proofs.Answers.{Usable, record_given, date_given}
@@ -24,8 +23,8 @@ module _ (edition : Edition) where
   -- within a coded year a later day is in no earlier week
   pub weeks_rise :
       (d e : Date) (r s : Record) →
-      record_of edition d ≡ Given r →
-      record_of edition e ≡ Given s →
+      record_of edition d ≡ Ok r →
+      record_of edition e ≡ Ok s →
       coded_year d ≡ coded_year e →
       day_of_date d ≤ day_of_date e →
       r.week ≤ s.week
@@ -48,8 +47,8 @@ module _ (edition : Edition) where
   -- and they come one after the other, from Monday on
   pub days_in_order :
       (r : Record) (first weekday : ℕ) (monday d : Date) →
-      date_of edition (on_weekday 1 r) first ≡ dated.Given monday →
-      date_of edition (on_weekday weekday r) first ≡ dated.Given d →
+      date_of edition (on_weekday 1 r) first ≡ Ok monday →
+      date_of edition (on_weekday weekday r) first ≡ Ok d →
       day_of_date d ≡ day_of_date monday + (weekday - 1)
   unfolding date_in
   days_in_order r first weekday monday d p q =

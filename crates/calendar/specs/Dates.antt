@@ -1,17 +1,14 @@
 -- From records to dates and back (01, "The calendar", and "Numbers given when something is refused"; 02, No. 2 and
 -- No. 3).
 -- Assumes nothing.
-use Rattle.std.specs.Prelude.{ℕ, ◌+◌, ◌*◌, ◌-◌, ◌/◌, ◌%◌, ◌≤◌, ◌≡◌, Bool, true, cond, ◌&&◌, leb, ℤ}
+use Rattle.std.specs.Prelude.{ℕ, ◌+◌, ◌*◌, ◌-◌, ◌/◌, ◌%◌, ◌≤◌, ◌≡◌, Bool, true, cond, ◌&&◌, leb, ℤ, Result, Ok, Err}
+use Rattle.refusal.specs.declared.Refusal.{Refusal}
 use Rattle.refusal.specs.declared.Refusal.TheVariants.{OutOfRange, NotInYear, WrongYear}
 use Rattle.record.specs.declared.Edition.{Edition}
 use Rattle.record.specs.declared.Record.{Record}
-use Rattle.record.specs.declared.Recorded.{Recorded}
-use Rattle.record.specs.declared.Recorded.TheVariants as recorded
 use Rattle.record.specs.Ranges.{within, time_in_range, in_range}
 use Rattle.calendar.specs.declared.Date.{Date}
 use Rattle.calendar.specs.declared.month.MonthDay.{MonthDay}
-use Rattle.calendar.specs.declared.Dated.{Dated}
-use Rattle.calendar.specs.declared.Dated.TheVariants as dated
 use Rattle.calendar.specs.LeapCodes.{leap_code, says_leap}
 use Rattle.calendar.specs.Years.{
   first_year_of_span,
@@ -37,9 +34,9 @@ abbrev pub weeks_in : Edition → Record → ℕ
 weeks_in edition r = weeks_of (says_leap edition r.leap) r.start_day
 
 -- a usable record itself; a field out of range gets 6, then week 53 in a year without one 7
-unfoldable pub usable_of : Edition → Record → Recorded
+unfoldable pub usable_of : Edition → Record → Result Record Refusal
 usable_of edition r =
-    cond (in_range r) (cond (leb r.week (weeks_in edition r)) (recorded.Given r) (recorded.Refused NotInYear)) (recorded.Refused OutOfRange)
+    cond (in_range r) (cond (leb r.week (weeks_in edition r)) (Ok r) (Err NotInYear)) (Err OutOfRange)
 
 -- ---- the date of a record
 
@@ -70,14 +67,14 @@ date_from coded r = date_on (civil_year coded (day_of_record coded r)) (day_of_r
 unfoldable pub date_in : Edition → ℕ → Record → Date
 date_in edition first r = date_from (year_from edition span first r.start_day r.leap) r
 
-unfoldable pub date_after : Edition → ℕ → Recorded → Dated
-date_after edition first (recorded.Given r) = dated.Given (date_in edition first r)
-date_after edition first (recorded.Refused why) = dated.Refused why
+unfoldable pub date_after : Edition → ℕ → Result Record Refusal → Result Date Refusal
+date_after edition first (Ok r) = Ok (date_in edition first r)
+date_after edition first (Err why) = Err why
 
 -- a first year out of its bounds gets 8, then the record 6 or 7
-unfoldable pub date_of : Edition → Record → ℕ → Dated
+unfoldable pub date_of : Edition → Record → ℕ → Result Date Refusal
 date_of edition r first =
-    cond (within first_year_of_span first last_first_year) (date_after edition first (usable_of edition r)) (dated.Refused WrongYear)
+    cond (within first_year_of_span first last_first_year) (date_after edition first (usable_of edition r)) (Err WrongYear)
 
 -- ---- the record of a date
 
@@ -112,10 +109,10 @@ unfoldable pub record_at : Edition → Date → Record
 record_at edition d = record_on edition (coded_year d) (day_of_date d - week_one (coded_year d)) d
 
 -- a civil year outside 1900 to 2100 gets 8, then what is out of range 6, then a coded year outside 1901 to 2099 8
-unfoldable pub record_of : Edition → Date → Recorded
+unfoldable pub record_of : Edition → Date → Result Record Refusal
 record_of edition d =
     cond (within first_civil_year d.year last_civil_year)
     (cond (date_in_range d)
-    (cond (within first_year_of_span (coded_year d) last_year) (recorded.Given (record_at edition d)) (recorded.Refused WrongYear))
-    (recorded.Refused OutOfRange))
-    (recorded.Refused WrongYear)
+    (cond (within first_year_of_span (coded_year d) last_year) (Ok (record_at edition d)) (Err WrongYear))
+    (Err OutOfRange))
+    (Err WrongYear)

@@ -1,10 +1,9 @@
 -- The next minute, of a record (01, "The calendar"; 02, No. 2 and No. 3) and, by itself, of a date.
 -- Assumes nothing.
-use Rattle.std.specs.Prelude.{ℕ, ◌+◌, cond, ltb, ℤ}
+use Rattle.std.specs.Prelude.{ℕ, ◌+◌, cond, ltb, ℤ, Result, Ok, Err}
+use Rattle.refusal.specs.declared.Refusal.{Refusal}
 use Rattle.record.specs.declared.Edition.{Edition}
 use Rattle.record.specs.declared.Record.{Record}
-use Rattle.record.specs.declared.Recorded.{Recorded}
-use Rattle.record.specs.declared.Recorded.TheVariants.{Given, Refused}
 use Rattle.calendar.specs.declared.Date.{Date}
 use Rattle.calendar.specs.LeapCodes.{says_leap, next_leap_code}
 use Rattle.calendar.specs.Years.{leap_year, year_length, weekday_after}
@@ -43,12 +42,12 @@ go_on edition r =
     cond (ltb r.minute 59) (at_time r.hour (r.minute + 1) r)
     (cond (ltb r.hour 23) (at_time (r.hour + 1) 0 r) (next_day edition r))
 
-unfoldable pub next_after : Edition → Recorded → Recorded
-next_after edition (Given r) = Given (go_on edition r)
-next_after edition (Refused why) = Refused why
+unfoldable pub next_after : Edition → Result Record Refusal → Result Record Refusal
+next_after edition (Ok r) = Ok (go_on edition r)
+next_after edition (Err why) = Err why
 
 -- a record that is not usable gets its 6 or 7; any other has a next minute
-unfoldable pub next_minute_of : Edition → Record → Recorded
+unfoldable pub next_minute_of : Edition → Record → Result Record Refusal
 next_minute_of edition r = next_after edition (usable_of edition r)
 
 -- ---- of a date

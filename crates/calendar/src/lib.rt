@@ -1,13 +1,11 @@
 // Dates of records and records of dates (document 01, "The calendar"), under either edition.
 #![tactic(auto)]
 
-ghost use Rattle.std.specs.Prelude.{◌≡◌, true, ◌≤◌};
-ghost use Rattle.record.specs.declared.Recorded.TheVariants.{Given};
+ghost use Rattle.std.specs.Prelude.{◌≡◌, true, ◌≤◌, Ok};
 ghost use Rattle.record.specs.Ranges.{within, in_range};
 ghost use Rattle.calendar.specs.Years.{first_year_of_span, last_first_year, last_year, first_civil_year, last_civil_year};
 ghost use Rattle.calendar.specs.Dates.{new_date, usable_of, HasWeek, day_of_record, date_from, date_in, date_of, date_in_range, day_of_date, coded_year, record_of};
 ghost use Rattle.calendar.specs.NextMinute.{next_minute_of};
-ghost use Rattle.calendar.specs.Given.{zero_date};
 
 mod leap;
 mod minute;
@@ -18,14 +16,14 @@ mod year;
 use leap::{leap_code, says_leap};
 use minute::go_on;
 use month::{days_before, month_day, month_length};
-use record::{Edition, Record, Recorded};
+use record::{Edition, Record};
 use refusal::Refusal;
 use week::{civil_year, week_one, weeks_of, year_around};
 use year::{is_leap, new_year, start_day_of, year_of};
 
-// A minute in UTC. The offset is carried and never applied.
+// A minute in UTC. The offset is carried and never applied. Zeros stand where there is none.
 #[repr(C)]
-#[derive(Clone, Copy, Drop)]
+#[derive(Clone, Copy, Default)]
 pub struct Date {
     pub year: u16,
     pub month: u8,
@@ -33,13 +31,6 @@ pub struct Date {
     pub hour: u8,
     pub minute: u8,
     pub offset: i8,
-}
-
-// A date, or why there is none.
-#[derive(Drop)]
-pub enum Dated {
-    Given(Date),
-    Refused(Refusal),
 }
 
 impl Date {
@@ -61,20 +52,13 @@ impl Date {
         ensures { result ≡ new_date year month day hour minute offset }
     {
         Date {
-            year: year,
-            month: month,
-            day: day,
-            hour: hour,
-            minute: minute,
-            offset: offset,
+            year,
+            month,
+            day,
+            hour,
+            minute,
+            offset,
         }
-    }
-
-    // The date that stands where there is none.
-    pub fn zeros() -> Date
-        ensures { result ≡ zero_date }
-    {
-        Date::new(0, 0, 0, 0, 0, 0)
     }
 
     // The date of a record in a coded year that has its week.
@@ -97,10 +81,10 @@ impl Date {
 
     // The date of a usable record, whose coded year is the one of the 28 that has the record's start day and leap code.
     fn in_span(edition: Edition, first_year: u16, record: Record) -> Date
-        requires { (first_year_of_span ≤ first_year) × (first_year ≤ last_first_year) × (usable_of edition «record» ≡ Given «record») }
+        requires { (first_year_of_span ≤ first_year) × (first_year ≤ last_first_year) × (usable_of edition «record» ≡ Ok «record») }
         ensures { result ≡ date_in edition first_year «record» }
     {
-        let coded = year_of(edition, first_year, record.start_day, record.leap);
+        let coded = year_of(edition, first_year, record.start_day, record.leap).unwrap();
         Date::in_year(coded, record)
     }
 
@@ -113,37 +97,36 @@ impl Date {
 }
 
 // The record itself where its fields are in range and its year has the week.
-pub fn usable(edition: Edition, record: Record) -> Recorded
+pub fn usable(edition: Edition, record: Record) -> Result<Record, Refusal>
     ensures { result ≡ usable_of edition «record» }
 {
     if record::in_range(record) {
         let weeks = weeks_of(says_leap(edition, record.leap), record.start_day);
         if record.week <= weeks {
-            Recorded::Given(record)
+            Ok(record)
         } else {
-            Recorded::Refused(Refusal::NotInYear)
+            Err(Refusal::NotInYear)
         }
     } else {
-        Recorded::Refused(Refusal::OutOfRange)
+        Err(Refusal::OutOfRange)
     }
 }
 
 // The date of the record in the 28 years from the first year on.
-pub fn date_of_record(edition: Edition, record: Record, first_year: u16) -> Dated
+#[tactic(auto, unfolding(crate::specs::Dates::date_of, crate::specs::Dates::date_after))]
+pub fn date_of_record(edition: Edition, record: Record, first_year: u16) -> Result<Date, Refusal>
     ensures { result ≡ date_of edition «record» first_year }
 {
     if Date::may_be_first(first_year) {
-        match usable(edition, record) {
-            Recorded::Given(r) => Dated::Given(Date::in_span(edition, first_year, r)),
-            Recorded::Refused(why) => Dated::Refused(why),
-        }
+        let usable = usable(edition, record)?;
+        Ok(Date::in_span(edition, first_year, usable))
     } else {
-        Dated::Refused(Refusal::WrongYear)
+        Err(Refusal::WrongYear)
     }
 }
 
 // The record of the date.
-pub fn record_of_date(edition: Edition, date: Date) -> Recorded
+pub fn record_of_date(edition: Edition, date: Date) -> Result<Record, Refusal>
     ensures { result ≡ record_of edition date }
 {
     let in_civil_years = record::within(Date::FIRST_CIVIL_YEAR, date.year, Date::LAST_CIVIL_YEAR);
@@ -152,21 +135,20 @@ pub fn record_of_date(edition: Edition, date: Date) -> Recorded
         if in_range {
             written(edition, date)
         } else {
-            Recorded::Refused(Refusal::OutOfRange)
+            Err(Refusal::OutOfRange)
         }
     } else {
-        Recorded::Refused(Refusal::WrongYear)
+        Err(Refusal::WrongYear)
     }
 }
 
 // The record one minute later.
-pub fn next_minute(edition: Edition, record: Record) -> Recorded
+#[tactic(auto, unfolding(crate::specs::NextMinute::next_minute_of, crate::specs::NextMinute::next_after))]
+pub fn next_minute(edition: Edition, record: Record) -> Result<Record, Refusal>
     ensures { result ≡ next_minute_of edition «record» }
 {
-    match usable(edition, record) {
-        Recorded::Given(r) => Recorded::Given(go_on(edition, r)),
-        Recorded::Refused(why) => Recorded::Refused(why),
-    }
+    let usable = usable(edition, record)?;
+    Ok(go_on(edition, usable))
 }
 
 // The month exists, it has the day, and the time is in range.
@@ -186,7 +168,7 @@ fn date_in_range(date: Date) -> bool
 }
 
 // The record of a date of the civil years, where its week's year can be coded.
-fn written(edition: Edition, date: Date) -> Recorded
+fn written(edition: Edition, date: Date) -> Result<Record, Refusal>
     requires { (first_civil_year ≤ date.year) × (date.year ≤ last_civil_year) × (date_in_range date ≡ true) }
     ensures { result ≡ record_of edition date }
 {
@@ -195,15 +177,15 @@ fn written(edition: Edition, date: Date) -> Recorded
     let next = week_one(date.year + 1);
     let coded = year_around(date.year, begin, next, day);
     if record::within(Date::FIRST_YEAR, coded, Date::LAST_YEAR) {
-        return Recorded::Given(record_in(edition, coded, day, date));
+        return Ok(record_in(edition, coded, day, date));
     }
-    Recorded::Refused(Refusal::WrongYear)
+    Err(Refusal::WrongYear)
 }
 
 // The record of a date on a day of its coded year.
 fn record_in(edition: Edition, coded: u16, day: u32, date: Date) -> Record
     requires { (first_year_of_span ≤ coded) × (coded ≤ last_year) × (date_in_range date ≡ true) × (coded ≡ coded_year date) × (day ≡ day_of_date date) }
-    ensures { record_of edition date ≡ Given result }
+    ensures { record_of edition date ≡ Ok result }
 {
     let since = day - week_one(coded);
     Record {

@@ -27,13 +27,9 @@ fn at_time(hour: u8, minute: u8, record: Record) -> Record
     ensures { result ≡ at_time hour minute «record» }
 {
     Record {
-        leap: record.leap,
-        start_day: record.start_day,
-        week: record.week,
-        weekday: record.weekday,
-        hour: hour,
-        minute: minute,
-        offset: record.offset,
+        hour,
+        minute,
+        ..record
     }
 }
 
@@ -42,13 +38,13 @@ fn midnight(leap: u8, start_day: u8, week: u8, weekday: u8, offset: i8) -> Recor
     ensures { result ≡ midnight leap start_day week weekday offset }
 {
     Record {
-        leap: leap,
-        start_day: start_day,
-        week: week,
-        weekday: weekday,
+        leap,
+        start_day,
+        week,
+        weekday,
         hour: 0,
         minute: 0,
-        offset: offset,
+        offset,
     }
 }
 

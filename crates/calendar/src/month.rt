@@ -1,9 +1,10 @@
 // Months: their lengths, and the day of the year that a day of a month is.
 ghost use Rattle.std.specs.Prelude.{◌≡◌, ◌-◌, ◌≤◌};
+ghost use Rattle.calendar.specs.Years.{year_length};
 ghost use Rattle.calendar.specs.Days.{months, month_length, sum_of, month_from};
 
 // A month and a day of it.
-#[derive(Drop)]
+#[derive(Clone, Copy)]
 pub struct MonthDay {
     pub month: u8,
     pub day: u8,
@@ -29,30 +30,30 @@ pub fn days_before(month: u8, leap: bool) -> u16
     ensures { result ≡ sum_of (month - 1) (months leap) }
 {
     let mut days: u16 = 0;
-    let mut m: u8 = 1;
-    while m < month {
+    for m in 1..month {
         days += month_length(m, leap) as u16;
-        m += 1;
     }
     days
 }
 
-// The month and the day of it of a day of the year; zeros where the year has no such day.
+// The month and the day of it of a day of the year.
 pub fn month_day(day: u32, leap: bool) -> MonthDay
+    requires { day ≤ year_length leap }
     ensures { result ≡ month_from (months leap) 1 day }
 {
     let mut left = day;
-    let mut month: u8 = 1;
-    while month <= 12 {
+    for month in 1..12 {
         let length = month_length(month, leap) as u32;
         if left <= length {
             return MonthDay {
-                month: month,
+                month,
                 day: left as u8,
             };
         }
         left -= length;
-        month += 1;
     }
-    MonthDay { month: 0, day: 0 }
+    MonthDay {
+        month: 12,
+        day: left as u8,
+    }
 }

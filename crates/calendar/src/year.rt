@@ -1,5 +1,5 @@
 // Years: which are leap, when they begin, and which has a given start day and leap code.
-ghost use Rattle.std.specs.Prelude.{◌≡◌, ◌≤◌, ◌+◌};
+ghost use Rattle.std.specs.Prelude.{◌≡◌, ◌≤◌, ◌+◌, unwrap_or};
 ghost use Rattle.calendar.specs.Years.{first_year_of_span, last_first_year, first_civil_year, last_civil_year, span, leap_year, year_length, new_year, start_day_of, year_from};
 
 use crate::Date;
@@ -41,19 +41,14 @@ pub fn start_day_of(year: u16) -> u8
 }
 
 // The one of the 28 years that has this start day and leap code.
-pub fn year_of(edition: Edition, first_year: u16, start_day: u8, leap: u8) -> u16
+pub fn year_of(edition: Edition, first_year: u16, start_day: u8, leap: u8) -> Option<u16>
     requires { (first_year_of_span ≤ first_year) × (first_year ≤ last_first_year) }
-    ensures { result ≡ year_from edition span first_year start_day leap }
+    ensures { unwrap_or result 0 ≡ year_from edition span first_year start_day leap }
 {
-    let mut i: u16 = 0;
-    while i < Date::SPAN {
-        let year = first_year + i;
-        if start_day_of(year) == start_day {
-            if leap_code(edition, year) == leap {
-                return year;
-            }
+    for year in first_year..first_year + Date::SPAN {
+        if start_day_of(year) == start_day && leap_code(edition, year) == leap {
+            return Some(year);
         }
-        i += 1;
     }
-    0
+    None
 }

@@ -6,7 +6,4 @@ use Rattle.calendar.specs.Days.{months, sum_of}
 use Rattle.calendar.proofs.month.days_before.Given as goal
 
 abbrev pub invariant-loop-m : goal.invariant-loop-m
-invariant-loop-m l = (1 ≤ l.m) × (l.m ≤ l.month) × (l.days ≤ 255 * l.m) × (l.days ≡ sum_of (l.m - 1) (months l.leap))
-
-abbrev pub decreases-loop-m : goal.decreases-loop-m
-decreases-loop-m l = l.month - l.m
+invariant-loop-m l = (l.days ≤ 255 * l.m) × (l.days ≡ sum_of (l.m - 1) (months l.leap))
