@@ -1,6 +1,5 @@
 // Months: their lengths, and the day of the year that a day of a month is.
 ghost use Rattle.std.specs.Prelude.{◌≡◌, ◌-◌, ◌≤◌};
-ghost use Rattle.calendar.specs.Years.{year_length};
 ghost use Rattle.calendar.specs.Days.{months, month_length, sum_of, month_from};
 
 // A month and a day of it.
@@ -36,13 +35,12 @@ pub fn days_before(month: u8, leap: bool) -> u16
     days
 }
 
-// The month and the day of it of a day of the year.
+// The month and the day of it of a day of the year; zeros, as `month_from` has them, where the year has no such day.
 pub fn month_day(day: u32, leap: bool) -> MonthDay
-    requires { day ≤ year_length leap }
     ensures { result ≡ month_from (months leap) 1 day }
 {
     let mut left = day;
-    for month in 1..12 {
+    for month in 1..13 {
         let length = month_length(month, leap) as u32;
         if left <= length {
             return MonthDay {
@@ -52,8 +50,5 @@ pub fn month_day(day: u32, leap: bool) -> MonthDay
         }
         left -= length;
     }
-    MonthDay {
-        month: 12,
-        day: left as u8,
-    }
+    MonthDay { month: 0, day: 0 }
 }

