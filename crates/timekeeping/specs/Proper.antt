@@ -1,11 +1,9 @@
 -- When a time is proper: it is none, or holds at an age of 0 to 119 a record that is usable in the edition of the call (01,
 -- "Hunting, trying, locked"; 02, No. 3 and No. 5).
 -- Assumes nothing.
-use Rattle.std.specs.Prelude.{Bool, true, false, cond, ◌&&◌, eqb, leb, ltb, ℤ, pos, negsuc}
+use Rattle.std.specs.Prelude.{Bool, false, cond, ◌&&◌, eqb, leb, ltb, ℤ, pos, negsuc, is_ok}
 use Rattle.record.specs.declared.Edition.{Edition}
 use Rattle.record.specs.declared.Record.{Record}
-use Rattle.record.specs.declared.Recorded.{Recorded}
-use Rattle.record.specs.declared.Recorded.TheVariants.{Given, Refused}
 use Rattle.calendar.specs.Dates.{usable_of}
 use Rattle.timekeeping.specs.declared.Time.{Time}
 use Rattle.timekeeping.specs.Times.{none, confirmed}
@@ -22,10 +20,6 @@ is_zero_record r =
 unfoldable pub is_no_time : Time → Bool
 is_no_time t = eqb t.kind none && (eqb t.age 0 && is_zero_record t.held)
 
-abbrev pub is_given : Recorded → Bool
-is_given (Given r) = true
-is_given (Refused why) = false
-
 -- time is none, or holds a usable record at an age of 0 to 119
 unfoldable pub time_proper : Edition → Time → Bool
-time_proper edition t = cond (eqb t.kind none) (is_no_time t) (leb t.kind confirmed && (ltb t.age 120 && is_given (usable_of edition t.held)))
+time_proper edition t = cond (eqb t.kind none) (is_no_time t) (leb t.kind confirmed && (ltb t.age 120 && is_ok (usable_of edition t.held)))

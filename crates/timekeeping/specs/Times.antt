@@ -1,12 +1,11 @@
 -- The time: held, aged, confirmed and forgotten (01, "Hunting, trying, locked"; 02, No. 5), with records read in an edition (No. 3).
 -- Assumes nothing.
-use Rattle.std.specs.Prelude.{ℕ, ◌+◌, ◌/◌, ◌%◌, Bool, false, cond, ◌&&◌, eqb, leb}
-use Rattle.block.specs.declared.Read.{Read}
-use Rattle.block.specs.declared.Read.TheVariants as read
+use Rattle.std.specs.Prelude.{ℕ, ◌+◌, ◌/◌, ◌%◌, Bool, false, cond, ◌&&◌, eqb, leb, Result, Ok, Err}
+use Rattle.refusal.specs.declared.Refusal.{Refusal}
+use Rattle.block.specs.declared.Body.{Body}
+use Rattle.block.specs.declared.Refused.{Refused}
 use Rattle.record.specs.declared.Edition.{Edition}
 use Rattle.record.specs.declared.Record.{Record}
-use Rattle.record.specs.declared.Recorded.{Recorded}
-use Rattle.record.specs.declared.Recorded.TheVariants.{Given, Refused}
 use Rattle.record.specs.Given.{zero_record}
 use Rattle.record.specs.Ranges.{within}
 use Rattle.record.specs.Words as words
@@ -32,13 +31,13 @@ abbrev pub no_time : Time
 no_time = time_of none zero_record 0
 
 -- a usable time block is a good time block whose fields are in range and whose year has the week: its record
-abbrev pub then_usable : Edition → Recorded → Recorded
-then_usable edition (Given r) = usable_of edition r
-then_usable edition (Refused why) = Refused why
+abbrev pub then_usable : Edition → Result Record Refusal → Result Record Refusal
+then_usable edition (Ok r) = usable_of edition r
+then_usable edition (Err why) = Err why
 
-unfoldable pub usable_in : Edition → Read → Recorded
-usable_in edition (read.Block code word) = then_usable edition (words.read_of edition code word)
-usable_in edition (read.Refused why told) = Refused why
+unfoldable pub usable_in : Edition → Result Body Refused → Result Record Refusal
+usable_in edition (Ok body) = then_usable edition (words.read_of edition body.code body.word)
+usable_in edition (Err refused) = Err refused.refusal
 
 -- minute, hour, weekday, week, start day and leap code are the same; the offset is not asked
 unfoldable pub same_minute : Record → Record → Bool
@@ -47,9 +46,9 @@ same_minute n r =
     && (eqb n.hour r.hour
     && (eqb n.weekday r.weekday && (eqb n.week r.week && (eqb n.start_day r.start_day && eqb n.leap r.leap))))
 
-abbrev pub is_minute : Recorded → Record → Bool
-is_minute (Given n) r = same_minute n r
-is_minute (Refused why) r = false
+abbrev pub is_minute : Result Record Refusal → Record → Bool
+is_minute (Ok n) r = same_minute n r
+is_minute (Err why) r = false
 
 -- the record's minute is so many minutes after the held record's, the offset aside; a minute that does not exist is never followed
 unfoldable pub follows : Edition → ℕ → Record → Record → Bool
@@ -68,6 +67,6 @@ renewed_by edition t r = time_of (cond (eqb t.kind none) candidate (cond (confir
 unfoldable pub aged_by : Time → Time
 aged_by t = cond (eqb t.kind none) no_time (cond (leb 120 (t.age + 1)) no_time (time_of t.kind t.held (t.age + 1)))
 
-unfoldable pub offered_to : Edition → Time → Recorded → Time
-offered_to edition t (Given r) = renewed_by edition t r
-offered_to edition t (Refused why) = aged_by t
+unfoldable pub offered_to : Edition → Time → Result Record Refusal → Time
+offered_to edition t (Ok r) = renewed_by edition t r
+offered_to edition t (Err why) = aged_by t

@@ -1,17 +1,14 @@
--- `is_no_time` meets its contract: each return is the case of the tests that led there.
+-- `is_no_time` meets its contract: the fields in another order, and the offset by its sign.
 -- Assumes nothing.
-use borrow.Author.Tests.{eq-eqb, ne_eqb}
-use Rattle.timekeeping.specs.Proper.{is_no_time}
+use Rattle.std.proofs.Common.{arith, ◌≡◌, ℤ, pos, negsuc, int_eq}
+use Rattle.std.proofs.lemmas.Bool.Decides.{nat_tests}
+use Rattle.timekeeping.specs.Proper.{is_zero, is_no_time, is_zero_record}
 use Rattle.timekeeping.proofs.is_no_time.Goals as goal
 
-pub returns-then-time-ne0 : goal.returns-then-time-ne0
-unfolding is_no_time
-returns-then-time-ne0 c = rw (ne_eqb _ _ c.if-time-ne0.true)
-
-pub returns-then-time-ne0-2 : goal.returns-then-time-ne0-2
-unfolding is_no_time
-returns-then-time-ne0-2 c = rw (eq-eqb _ _ c.if-time-ne0.false, ne_eqb _ _ c.if-time-ne0-2.true)
+zero_offset : (z : ℤ) → int_eq z (pos 0) ≡ is_zero z
+zero_offset (pos n) = grind (arith, nat_tests)
+zero_offset (negsuc n) = grind (arith, nat_tests)
 
 pub returns : goal.returns
-unfolding is_no_time
-returns c = rw (eq-eqb _ _ c.if-time-ne0.false, eq-eqb _ _ c.if-time-ne0-2.false) c.is_zero_record.ensures
+unfolding is_no_time is_zero_record
+returns c = rw (c.eq.ensures, c.no_time.ensures, zero_offset) (grind (arith, nat_tests))
