@@ -6,7 +6,9 @@ use mathlib.Core.Bool.{Bool, true, false, and-eq-true_iff}
 use borrow.Author.Tests.{eqb-true, eqb-false, leb-true, leb-false}
 use lib.Dec.{eqb, leb}
 use Rattle.block.specs.Read.{remainder_read}
-use Rattle.block.specs.declared.Read.{Read}
+use Rattle.std.specs.Prelude.{Result}
+use Rattle.block.specs.declared.Body.{Body}
+use Rattle.block.specs.declared.Refused.{Refused}
 use Rattle.record.specs.declared.Edition.{Edition}
 use Rattle.timekeeping.specs.declared.Time.{Time}
 use Rattle.timekeeping.specs.Proper.{time_proper}
@@ -20,7 +22,7 @@ use Rattle.locking.specs.Modes.{is_good, good_block, bad_block, passed_over, hun
 
 module _ (edition : Edition) where
   -- a judged window is a good block, a bad one, or passes one bit over
-  pub judged_elim : (P : Judged → Type 0) (l : Lock) (w : Read) → ((k : Lock) → P (good_block k)) → ((k : Lock) → P (bad_block (remainder_read w) k)) → P (passed_over fresh_lock) → P (judged_by edition l w)
+  pub judged_elim : (P : Judged → Type 0) (l : Lock) (w : Result Body Refused) → ((k : Lock) → P (good_block k)) → ((k : Lock) → P (bad_block (remainder_read w) k)) → P (passed_over fresh_lock) → P (judged_by edition l w)
   unfolding judged_by hunted tried held_on
   judged_elim P l w good bad passed =
       cond_elim P (eqb l.mode hunting) (λ _. cond_elim P (is_good w) (λ _. good _) (λ _. passed))
@@ -29,11 +31,11 @@ module _ (edition : Edition) where
       (λ _. cond_elim P (is_good w) (λ _. good _) (λ _. bad _)))
 
   -- so it counts one of the three
-  pub counts_one : (l : Lock) (w : Read) {j : Judged} → j ≡ judged_by edition l w → j.blocks.good + j.blocks.bad + j.passed ≡ 1
+  pub counts_one : (l : Lock) (w : Result Body Refused) {j : Judged} → j ≡ judged_by edition l w → j.blocks.good + j.blocks.bad + j.passed ≡ 1
   counts_one l w e = rw e (judged_elim (λ (j : Judged). j.blocks.good + j.blocks.bad + j.passed ≡ 1) l w (λ _. refl) (λ _. refl) refl)
 
   -- a locked state stays so, with the block offered to its time, or it is fresh
-  pub held_elim : (P : Judged → Type 0) (bad : ℕ) (t : Time) (w : Read) → P (good_block (lock_of locked 0 0 (offered_to edition t (usable_in edition w)))) → P (bad_block (remainder_read w) fresh_lock)
+  pub held_elim : (P : Judged → Type 0) (bad : ℕ) (t : Time) (w : Result Body Refused) → P (good_block (lock_of locked 0 0 (offered_to edition t (usable_in edition w)))) → P (bad_block (remainder_read w) fresh_lock)
       → (bad + 1 < 4 → P (bad_block (remainder_read w) (lock_of locked 0 (bad + 1) (offered_to edition t (usable_in edition w))))) → P (held_on edition bad t w)
   unfolding held_on
   held_elim P bad t w good lost kept =
@@ -41,7 +43,7 @@ module _ (edition : Edition) where
       (λ _. cond_elim (λ (l : Lock). P (bad_block (remainder_read w) l)) (leb 4 (bad + 1)) (λ _. lost) (λ e. kept (leb-false 4 (bad + 1) e)))
 
   -- a judged window leaves a fresh lock, or it is one good block more, the third of which locks, or the lock was there already
-  pub modes_elim : (P : Judged → Type 0) (l : Lock) (w : Read) → ((j : Judged) → j.lock ≡ fresh_lock → P j)
+  pub modes_elim : (P : Judged → Type 0) (l : Lock) (w : Result Body Refused) → ((j : Judged) → j.lock ≡ fresh_lock → P j)
       → (l.mode ≡ hunting → is_good w ≡ true → P (good_block (lock_of trying 1 0 no_time)))
       → (l.mode ≡ trying → is_good w ≡ true → P (good_block (lock_of trying (l.good + 1) 0 no_time)))
       → (l.mode ≡ trying → is_good w ≡ true → 3 ≤ l.good + 1 → P (good_block (lock_of locked 0 0 no_time)))
@@ -59,17 +61,17 @@ module _ (edition : Edition) where
       (λ t. held (eqb-false l.mode hunting h) (eqb-false l.mode trying t)))
 
   -- a window of a locked state
-  pub held_judged : (l : Lock) (w : Read) → l.mode ≡ locked → judged_by edition l w ≡ held_on edition l.bad l.time w
+  pub held_judged : (l : Lock) (w : Result Body Refused) → l.mode ≡ locked → judged_by edition l w ≡ held_on edition l.bad l.time w
   unfolding judged_by
   held_judged l w m = rw m
 
   -- hunting, a window that is no good block passes one bit over
-  pub passes_over : (l : Lock) (w : Read) → l.mode ≡ hunting → is_good w ≡ false → judged_by edition l w ≡ passed_over fresh_lock
+  pub passes_over : (l : Lock) (w : Result Body Refused) → l.mode ≡ hunting → is_good w ≡ false → judged_by edition l w ≡ passed_over fresh_lock
   unfolding judged_by hunted
   passes_over l w m e = rw (m, e)
 
   -- any other window is used up
-  pub uses_up : (l : Lock) (w : Read) → (l.mode ≡ hunting → is_good w ≡ true) → (judged_by edition l w).passed ≡ 0
+  pub uses_up : (l : Lock) (w : Result Body Refused) → (l.mode ≡ hunting → is_good w ≡ true) → (judged_by edition l w).passed ≡ 0
   unfolding judged_by hunted tried held_on
   uses_up l w good =
       let P : Judged → Type 0 = λ j. j.passed ≡ 0 in

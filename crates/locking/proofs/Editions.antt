@@ -5,7 +5,9 @@ use mathlib.Core.Path.{◌≡◌, refl}
 use mathlib.Core.Bool.{Bool, true, false, cond}
 use lib.Dec.{eqb, leb}
 use Rattle.block.specs.Read.{remainder_read}
-use Rattle.block.specs.declared.Read.{Read}
+use Rattle.std.specs.Prelude.{Result}
+use Rattle.block.specs.declared.Body.{Body}
+use Rattle.block.specs.declared.Refused.{Refused}
 use Rattle.record.specs.declared.Edition.{Edition}
 use Rattle.locking.specs.declared.Blocks.{Blocks}
 use Rattle.locking.specs.declared.Judged.{Judged}
@@ -36,7 +38,7 @@ same_lock_lem blocks passed a = record { blocks = refl; passed = refl; lock = a 
 same : (j : Judged) → SameJudgement j j
 same j = record { blocks = refl; passed = refl; lock = record { mode = refl; good = refl; bad = refl } }
 
-pub judged_alike : (a b : Edition) (l k : Lock) (w : Read) → Alike l k → SameJudgement (judged_by a l w) (judged_by b k w)
+pub judged_alike : (a b : Edition) (l k : Lock) (w : Result Body Refused) → Alike l k → SameJudgement (judged_by a l w) (judged_by b k w)
 unfolding judged_by held_on
 judged_alike a b l k w e =
     rw (e.mode, e.good, e.bad)

@@ -6,7 +6,9 @@ use mathlib.Core.Path.{◌≡◌, refl}
 use mathlib.Core.Bool.{true, and-eq-true_iff}
 use borrow.Author.Tests.{le-leb, leb-false}
 use lib.Dec.{leb}
-use Rattle.block.specs.declared.Read.{Read}
+use Rattle.std.specs.Prelude.{Result}
+use Rattle.block.specs.declared.Body.{Body}
+use Rattle.block.specs.declared.Refused.{Refused}
 use Rattle.record.specs.declared.Edition.{Edition}
 use Rattle.timekeeping.specs.declared.Time.{Time}
 use Rattle.timekeeping.specs.Times.{usable_in, offered_to}
@@ -23,7 +25,7 @@ module _ (edition : Edition) where
   abbrev pub Kept : Judged → Type 0
   Kept j = lock_proper edition j.lock ≡ true
 
-  tried_proper : (good : ℕ) (w : Read) → good ≤ 2 → Kept (tried good w)
+  tried_proper : (good : ℕ) (w : Result Body Refused) → good ≤ 2 → Kept (tried good w)
   unfolding tried lock_proper time_proper is_no_time is_zero_record
   tried_proper good w h =
       cond_elim Kept (is_good w)
@@ -32,18 +34,18 @@ module _ (edition : Edition) where
       (λ e. (and-eq-true_iff _ _).1 (le-leb 1 (good + 1) (omega arith), (and-eq-true_iff _ _).1 (le-leb (good + 1) 2 (omega (arith, leb-false 3 (good + 1) e)), refl))))
       (λ _. refl)
 
-  held_proper : (bad : ℕ) (t : Time) (w : Read) → bad ≤ 3 → time_proper edition t ≡ true → Kept (held_on edition bad t w)
+  held_proper : (bad : ℕ) (t : Time) (w : Result Body Refused) → bad ≤ 3 → time_proper edition t ≡ true → Kept (held_on edition bad t w)
   unfolding lock_proper is_no_time is_zero_record
   held_proper bad t w h e =
       let o : time_proper edition (offered_to edition t (usable_in edition w)) ≡ true = time_offered edition t (usable_in edition w) (usable_in_lem edition w) e in
       held_elim edition Kept bad t w o refl (λ f. (and-eq-true_iff _ _).1 (le-leb (bad + 1) 3 (omega arith), o))
 
-  hunted_proper : (w : Read) → Kept (hunted w)
+  hunted_proper : (w : Result Body Refused) → Kept (hunted w)
   unfolding hunted lock_proper is_no_time is_zero_record
   hunted_proper w = cond_elim Kept (is_good w) (λ _. refl) (λ _. refl)
 
   -- the lock after a window is proper where the lock before it was
-  pub judged_proper : (l : Lock) (w : Read) → lock_proper edition l ≡ true → Kept (judged_by edition l w)
+  pub judged_proper : (l : Lock) (w : Result Body Refused) → lock_proper edition l ≡ true → Kept (judged_by edition l w)
   unfolding judged_by
   judged_proper l w e =
       proper_elim edition (λ (l : Lock). Kept (judged_by edition l w)) l e (hunted_proper w) (λ good _ to. tried_proper good w to) (λ bad t few p. held_proper bad t w few p)

@@ -2,24 +2,57 @@
 #![tactic(auto)]
 
 ghost use Rattle.std.specs.Prelude.{◌≡◌};
-ghost use Rattle.locking.specs.Locks.{lock_of, fresh_lock, hunting_proper, trying_proper, locked_proper, lock_proper};
+ghost use Rattle.timekeeping.specs.Times.{no_time};
+ghost use Rattle.locking.specs.Locks.{trying, locked, lock_of, fresh_lock, lock_proper};
 ghost use Rattle.locking.specs.Modes.{good_block, bad_block, passed_over, hunted, tried, held_on, judged_by};
 
-use block::Read;
+use block::{Body, Refused};
 use record::Edition;
 use timekeeping::{Time, is_no_time, no_time};
 
 // A state without its bits.
-#[derive(Clone, Copy, Drop)]
+#[derive(Clone, Copy, Default)]
 pub struct Lock {
+    // Hunting, trying or locked. A number, since C lends the state as plain numbers and `is_proper` answers for each of them.
     pub mode: u8,
     pub good: u8,
     pub bad: u8,
     pub time: Time,
 }
 
+impl Lock {
+    pub const HUNTING: u8 = 0;
+
+    pub const TRYING: u8 = 1;
+
+    pub const LOCKED: u8 = 2;
+
+    // Trying, after so many good blocks.
+    fn trying(good: u8) -> Lock
+        ensures { result ≡ lock_of trying good 0 no_time }
+    {
+        Lock {
+            mode: Lock::TRYING,
+            good,
+            ..fresh_lock()
+        }
+    }
+
+    // Locked, after so many bad blocks in a row.
+    fn locked(bad: u8, time: Time) -> Lock
+        ensures { result ≡ lock_of locked 0 bad time }
+    {
+        Lock {
+            mode: Lock::LOCKED,
+            good: 0,
+            bad,
+            time,
+        }
+    }
+}
+
 // How many judged blocks were good and how many bad, and the remainder of the last bad one that tells one.
-#[derive(Drop)]
+#[derive(Default, Drop)]
 pub struct Blocks {
     pub good: u32,
     pub bad: u32,
@@ -34,14 +67,45 @@ pub struct Judged {
     pub lock: Lock,
 }
 
-fn lock_of(mode: u8, good: u8, bad: u8, time: Time) -> Lock
-    ensures { result ≡ lock_of mode good bad time }
-{
-    Lock {
-        mode,
-        good,
-        bad,
-        time,
+impl Judged {
+    fn good_block(lock: Lock) -> Judged
+        ensures { result ≡ good_block lock }
+    {
+        let blocks = Blocks {
+            good: 1,
+            ..Blocks::default()
+        };
+        Judged {
+            blocks,
+            passed: 0,
+            lock,
+        }
+    }
+
+    fn bad_block(remainder: u16, lock: Lock) -> Judged
+        ensures { result ≡ bad_block remainder lock }
+    {
+        let blocks = Blocks {
+            good: 0,
+            bad: 1,
+            remainder,
+        };
+        Judged {
+            blocks,
+            passed: 0,
+            lock,
+        }
+    }
+
+    fn passed_over(lock: Lock) -> Judged
+        ensures { result ≡ passed_over lock }
+    {
+        let blocks = Blocks::default();
+        Judged {
+            blocks,
+            passed: 1,
+            lock,
+        }
     }
 }
 
@@ -49,174 +113,71 @@ fn lock_of(mode: u8, good: u8, bad: u8, time: Time) -> Lock
 pub fn fresh_lock() -> Lock
     ensures { result ≡ fresh_lock }
 {
-    lock_of(0, 0, 0, no_time())
+    Lock::default()
 }
 
-fn good_block(lock: Lock) -> Judged
-    ensures { result ≡ good_block lock }
-{
-    let blocks = Blocks {
-        good: 1,
-        bad: 0,
-        remainder: 0,
-    };
-    Judged {
-        blocks,
-        passed: 0,
-        lock,
-    }
-}
-
-fn bad_block(remainder: u16, lock: Lock) -> Judged
-    ensures { result ≡ bad_block remainder lock }
-{
-    let blocks = Blocks {
-        good: 0,
-        bad: 1,
-        remainder,
-    };
-    Judged {
-        blocks,
-        passed: 0,
-        lock,
-    }
-}
-
-fn passed_over(lock: Lock) -> Judged
-    ensures { result ≡ passed_over lock }
-{
-    let blocks = Blocks {
-        good: 0,
-        bad: 0,
-        remainder: 0,
-    };
-    Judged {
-        blocks,
-        passed: 1,
-        lock,
-    }
-}
-
-fn hunt(read: Read) -> Judged
+#[tactic(auto, unfolding(crate::specs::Modes::hunted))]
+fn hunt(read: Result<Body, Refused>) -> Judged
     ensures { result ≡ hunted read }
 {
     match read {
-        Read::Block { code: _, word: _ } => good_block(lock_of(1, 1, 0, no_time())),
-        Read::Refused {
-            refusal: _,
-            remainder: _,
-        } => passed_over(fresh_lock()),
+        Ok(_) => Judged::good_block(Lock::trying(1)),
+        Err(_) => Judged::passed_over(fresh_lock()),
     }
 }
 
-fn try_on(good: u8, read: Read) -> Judged
+#[tactic(auto, using(std::proofs::lemmas::Bool::Decides::nat_tests), unfolding(crate::specs::Modes::tried))]
+fn try_on(good: u8, read: Result<Body, Refused>) -> Judged
     ensures { result ≡ tried good read }
 {
     match read {
-        Read::Block { code: _, word: _ } => {
-            if good < 2 {
-                good_block(lock_of(1, good + 1, 0, no_time()))
-            } else {
-                good_block(lock_of(2, 0, 0, no_time()))
-            }
-        }
-        Read::Refused {
-            refusal: _,
-            remainder,
-        } => bad_block(remainder, fresh_lock()),
+        Ok(_) if good < 2 => Judged::good_block(Lock::trying(good + 1)),
+        Ok(_) => Judged::good_block(Lock::locked(0, no_time())),
+        Err(refused) => Judged::bad_block(refused.remainder, fresh_lock()),
     }
 }
 
-fn hold_on(edition: Edition, bad: u8, time: Time, read: Read) -> Judged
+#[tactic(auto, using(std::proofs::lemmas::Bool::Decides::nat_tests), unfolding(crate::specs::Modes::held_on))]
+fn hold_on(edition: Edition, bad: u8, time: Time, read: Result<Body, Refused>) -> Judged
     ensures { result ≡ held_on edition bad time read }
 {
     let next = timekeeping::offered_to(edition, time, read);
-    let none = no_time();
     match read {
-        Read::Block { code: _, word: _ } => good_block(lock_of(2, 0, 0, next)),
-        Read::Refused {
-            refusal: _,
-            remainder,
-        } => {
-            if bad < 3 {
-                bad_block(remainder, lock_of(2, 0, bad + 1, next))
+        Ok(_) => Judged::good_block(Lock::locked(0, next)),
+        Err(refused) => {
+            let left = if bad < 3 {
+                Lock::locked(bad + 1, next)
             } else {
-                bad_block(remainder, lock_of(0, 0, 0, none))
-            }
+                fresh_lock()
+            };
+            Judged::bad_block(refused.remainder, left)
         }
     }
 }
 
 // A judged window, by the mode.
-pub fn judge(edition: Edition, lock: Lock, read: Read) -> Judged
+#[tactic(auto, using(std::proofs::lemmas::Bool::Decides::nat_tests), unfolding(crate::specs::Modes::judged_by))]
+pub fn judge(edition: Edition, lock: Lock, read: Result<Body, Refused>) -> Judged
     ensures { result ≡ judged_by edition lock read }
 {
-    let mode = lock.mode;
-    let good = lock.good;
-    if mode == 0 {
-        return hunt(read);
+    match lock.mode {
+        Lock::HUNTING => hunt(read),
+        Lock::TRYING => try_on(lock.good, read),
+        _ => hold_on(edition, lock.bad, lock.time, read),
     }
-    if mode == 1 {
-        return try_on(good, read);
-    }
-    let time = lock.time;
-    hold_on(edition, lock.bad, time, read)
 }
 
 // ---- proper
 
-fn hunting_is_proper(good: u8, bad: u8, time: Time) -> bool
-    ensures { result ≡ hunting_proper good bad time }
-{
-    if good != 0 {
-        return false;
-    }
-    if bad != 0 {
-        return false;
-    }
-    is_no_time(time)
-}
-
-fn trying_is_proper(good: u8, bad: u8, time: Time) -> bool
-    ensures { result ≡ trying_proper good bad time }
-{
-    if good < 1 {
-        return false;
-    }
-    if 2 < good {
-        return false;
-    }
-    if bad != 0 {
-        return false;
-    }
-    is_no_time(time)
-}
-
-fn locked_is_proper(edition: Edition, good: u8, bad: u8, time: Time) -> bool
-    ensures { result ≡ locked_proper edition good bad time }
-{
-    if good != 0 {
-        return false;
-    }
-    if 3 < bad {
-        return false;
-    }
-    timekeeping::is_proper(edition, time)
-}
-
+#[tactic(auto, using(std::proofs::lemmas::Bool::Decides::nat_tests), unfolding(crate::specs::Locks::lock_proper))]
 pub fn is_proper(edition: Edition, lock: Lock) -> bool
     ensures { result ≡ lock_proper edition lock }
 {
-    let time = lock.time;
-    if lock.mode == 0 {
-        return hunting_is_proper(lock.good, lock.bad, time);
-    }
-    if lock.mode == 1 {
-        return trying_is_proper(lock.good, lock.bad, time);
-    }
-    if lock.mode == 2 {
-        locked_is_proper(edition, lock.good, lock.bad, time)
-    } else {
-        false
+    let bad = lock.bad;
+    match lock.mode {
+        Lock::HUNTING => lock.good == 0 && bad == 0 && is_no_time(lock.time),
+        Lock::TRYING => 1 <= lock.good && lock.good <= 2 && bad == 0 && is_no_time(lock.time),
+        Lock::LOCKED => lock.good == 0 && bad <= 3 && timekeeping::is_proper(edition, lock.time),
+        _ => false,
     }
 }
