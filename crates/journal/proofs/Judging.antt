@@ -1,24 +1,14 @@
 -- Entries judged one after the other: what is found so far, with what is left, makes up the whole.
 -- Assumes nothing.
-use borrow.Author.Tests.{le-leb, lt-leb, lt-ltb, le-ltb, ne_eqb}
-use mathlib.Core.Bool.{Bool, true, false, cond, ◌&&◌}
-use mathlib.Core.List.{List, [], ◌∷◌}
-use mathlib.Core.Path.{◌≡◌, sym, ap, ap₂, ◌∙◌}
-use Prim.Native.Nat.{ℕ, suc, ◌+◌, ◌-◌, ◌*◌, ◌^◌, ◌≤◌, ◌<◌}
-use native.Mathlib.Omega.{arith}
-use lib.Dec.{leb}
-use lib.ListN.{length, drop}
+use Rattle.std.proofs.Common.{◌≡◌, ℕ, suc, ◌+◌, ◌≤◌, ◌<◌, Bool, true, false, cond, ◌&&◌, leb, List, [], ◌∷◌, length, get_or, drop, Result, Ok, Err, sym, ap, ap₂, ◌∙◌, zero-add, add-one, drop-cons, drop_of_length-le, arith}
 use Rattle.block.specs.Packed.{fits}
+use Rattle.refusal.specs.declared.Refusal.{Refusal}
 use Rattle.refusal.specs.declared.Refusal.TheVariants.{NumberTooWide, NotRising}
-use Rattle.journal.specs.Entries.{entry_of, entries_of}
-use Rattle.journal.specs.Order.{verdict_from, sound_from, checked_of, least_after}
+use Rattle.journal.specs.Order.{verdict_on, verdict_from, sound_from, checked_of}
 use Rattle.journal.specs.declared.Checked.{Checked}
 use Rattle.journal.specs.declared.Entry.{Entry}
-use Rattle.journal.specs.declared.Verdict.{Verdict}
-use Rattle.journal.specs.declared.Verdict.TheVariants.{Sound, Faulty}
-use Rattle.journal.proofs.Sixteens.{entries_next}
 
-abbrev pub checked : ℕ → Verdict → Checked
+abbrev pub checked : ℕ → Result (Unit {0}) Refusal → Checked
 checked n v = record { sound = n; verdict = v }
 
 -- so many were sound, and these are left
@@ -27,72 +17,66 @@ checked_from seen least es = checked (seen + sound_from least es) (verdict_from 
 
 -- ---- the next entry
 
+-- by its two tests, where the others decide if it passes both
+abbrev verdict_by : Bool → Bool → Result (Unit {0}) Refusal → Result (Unit {0}) Refusal
+verdict_by rises narrow others = cond rises (cond narrow others (Err NumberTooWide)) (Err NotRising)
+
+none_more : (seen : ℕ) → seen + 0 ≡ seen
+none_more seen = omega arith
+
 module _ (seen least : ℕ) (e : Entry) (es : List Entry) where
-  goes_on : least ≤ e.bit → e.block < 2 ^ 50 → checked_from seen least (e ∷ es) ≡ checked_from (seen + 1) (e.bit + 1) es
+  -- what is found of the entries behind it
+  abbrev n : ℕ
+  n = sound_from (e.bit + 1) es
+
+  abbrev v : Result (Unit {0}) Refusal
+  v = verdict_from (e.bit + 1) es
+
+  goes_on : verdict_on least e ≡ Ok tt → checked_from seen least (e ∷ es) ≡ checked_from (seen + 1) (e.bit + 1) es
   unfolding verdict_from sound_from
-  goes_on h f =
-      let n : ℕ = sound_from (e.bit + 1) es in
-      let more : seen + suc n ≡ seen + 1 + n = omega arith in
-      rw (le-leb least e.bit h, lt-ltb e.block (2 ^ 50) f) (ap (λ (k : ℕ). checked k (verdict_from (e.bit + 1) es)) more)
+  goes_on = go (leb least e.bit) (fits e.block)
+    where
+      go : (a b : Bool) → verdict_by a b (Ok tt) ≡ Ok tt
+          → checked (seen + cond (a && b) (suc n) 0) (verdict_by a b v) ≡ checked (seen + 1 + n) v
+      go true true h = let more : seen + suc n ≡ seen + 1 + n = omega arith in ap (λ (k : ℕ). checked k v) more
+      go true false h = cc
+      go false b h = cc
 
-  none_more : seen + 0 ≡ seen
-  none_more = omega arith
-
-  too_wide : least ≤ e.bit → 2 ^ 50 ≤ e.block → checked_from seen least (e ∷ es) ≡ checked seen (Faulty NumberTooWide)
+  stops : {why : Refusal} → verdict_on least e ≡ Err why → checked_from seen least (e ∷ es) ≡ checked seen (Err why)
   unfolding verdict_from sound_from
-  too_wide h f = rw (le-leb least e.bit h, le-ltb e.block (2 ^ 50) f) (ap (λ (k : ℕ). checked k (Faulty NumberTooWide)) none_more)
+  stops {why} = go (leb least e.bit) (fits e.block)
+    where
+      go : (a b : Bool) → verdict_by a b (Ok tt) ≡ Err why
+          → checked (seen + cond (a && b) (suc n) 0) (verdict_by a b v) ≡ checked seen (Err why)
+      go true true h = cc
+      go true false h = ap₂ checked (none_more seen) h
+      go false b h = ap₂ checked (none_more seen) h
 
-  not_rising : e.bit < least → checked_from seen least (e ∷ es) ≡ checked seen (Faulty NotRising)
-  unfolding verdict_from sound_from
-  not_rising h = rw (lt-leb least e.bit h) (ap (λ (k : ℕ). checked k (Faulty NotRising)) none_more)
+-- ---- along the entries
 
--- ---- along the bytes
-
-module _ (s : List ℕ) (first count : ℕ) where
-  -- the entries behind those that were seen
-  abbrev pub left : ℕ → List Entry
-  left seen = entries_of (count - seen) (drop (first + seen * 16) s)
-
+module _ (es : List Entry) where
   -- the answer to all of them, from what was found so far
   abbrev pub Answers : ℕ → ℕ → Type 0
-  Answers seen least = checked_from seen least (left seen) ≡ checked_of (entries_of count (drop first s))
+  Answers seen least = checked_from seen least (drop seen es) ≡ checked_of es
 
   pub all_left : Answers 0 0
   unfolding checked_of
-  all_left =
-      let d : count - 0 ≡ count = omega arith in
-      let f : first + 0 * 16 ≡ first = omega arith in
-      let z : (n : ℕ) → 0 + n ≡ n = λ n. omega arith in
-      ap₂ (λ (n k : ℕ). checked_from 0 0 (entries_of n (drop k s))) d f
-      ∙ ap (λ (k : ℕ). checked k (verdict_from 0 (entries_of count (drop first s)))) (z (sound_from 0 (entries_of count (drop first s))))
+  all_left = ap (λ (k : ℕ). checked k (verdict_from 0 es)) (zero-add (sound_from 0 es))
 
-  pub none_left : (seen least : ℕ) → count ≤ seen → Answers seen least → checked seen Sound ≡ checked_of (entries_of count (drop first s))
-  unfolding entries_of verdict_from sound_from
+  pub none_left : (seen least : ℕ) → length es ≤ seen → Answers seen least → checked seen (Ok tt) ≡ checked_of es
+  unfolding verdict_from sound_from
   none_left seen least h answers =
-      let d : count - seen ≡ 0 = omega arith in
-      let z : seen + 0 ≡ seen = omega arith in
-      sym (ap (λ (n : ℕ). checked_from seen least (entries_of n (drop (first + seen * 16) s))) d ∙ ap (λ (k : ℕ). checked k Sound) z) ∙ answers
+      sym (ap (checked_from seen least) (drop_of_length-le es h) ∙ ap (λ (k : ℕ). checked k (Ok tt)) (none_more seen)) ∙ answers
 
-  module _ (seen least : ℕ) (more : seen < count) (e : Entry) (is : e ≡ entry_of (drop (first + seen * 16) s)) (answers : Answers seen least) where
-    next : left seen ≡ e ∷ left (seen + 1)
-    next =
-        let d : count - seen - 1 ≡ count - (seen + 1) = omega arith in
-        let p : first + seen * 16 + 16 ≡ first + (seen + 1) * 16 = omega arith in
-        entries_next s (first + seen * 16) (count - seen) (omega arith)
-        ∙ ap₂ (λ (x : Entry) (xs : List Entry). x ∷ xs) (sym is) (ap₂ (λ (n k : ℕ). entries_of n (drop k s)) d p)
+  module _ (seen least : ℕ) (more : seen < length es) (e : Entry) (is : get_or es seen e ≡ e) (answers : Answers seen least) where
+    from : checked_from seen least (e ∷ drop (seen + 1) es) ≡ checked_of es
+    from = ap (checked_from seen least) (sym (rw (add-one, drop-cons es seen e more) (ap (λ (x : Entry). x ∷ drop (suc seen) es) is))) ∙ answers
 
-    from : checked_from seen least (e ∷ left (seen + 1)) ≡ checked_of (entries_of count (drop first s))
-    from = ap (checked_from seen least) (sym next) ∙ answers
+    pub one_more : verdict_on least e ≡ Ok tt → Answers (seen + 1) (e.bit + 1)
+    one_more h = sym (goes_on seen least e (drop (seen + 1) es) h) ∙ from
 
-    pub one_more : least ≤ e.bit → e.block < 2 ^ 50 → Answers (seen + 1) (least_after (seen + 1) e.bit)
-    one_more h f =
-        rw (ne_eqb (seen + 1) 0 (λ z. omega arith)) (sym (goes_on seen least e (left (seen + 1)) h f) ∙ from)
-
-    pub wide : least ≤ e.bit → 2 ^ 50 ≤ e.block → checked seen (Faulty NumberTooWide) ≡ checked_of (entries_of count (drop first s))
-    wide h f = sym (too_wide seen least e (left (seen + 1)) h f) ∙ from
-
-    pub late : e.bit < least → checked seen (Faulty NotRising) ≡ checked_of (entries_of count (drop first s))
-    late h = sym (not_rising seen least e (left (seen + 1)) h) ∙ from
+    pub one_faulty : {why : Refusal} → verdict_on least e ≡ Err why → checked seen (Err why) ≡ checked_of es
+    one_faulty h = sym (stops seen least e (drop (seen + 1) es) h) ∙ from
 
 -- ---- at most all are sound
 

@@ -2,6 +2,7 @@
 -- Assumes nothing.
 use mathlib.Core.List.{List, [], ◌++◌, append_assoc, append-nil}
 use mathlib.Core.Path.{◌≡◌, refl, sym, ap, ◌∙◌, subst}
+use Rattle.std.proofs.Common.{Ok}
 use Prim.Native.Nat.{ℕ, ◌-◌, ◌^◌, ◌≤◌, ◌<◌}
 use native.Mathlib.Omega.{arith}
 use lib.ListN.{length, take, drop, length-append, length-replicate}
@@ -10,14 +11,13 @@ use Rattle.block.specs.Bits.{zeros}
 use Rattle.journal.specs.Compaction.{journal_length, journal_of, compact_by, compacted_by, compact_of, compacted_of}
 use Rattle.journal.specs.Entries.{entry_of, entries_of, pair_bytes, bytes_of}
 use Rattle.journal.specs.Laws.{Bytes, Compacts, WantedKept}
-use Rattle.journal.specs.Order.{verdict_from, checked_of}
-use Rattle.journal.specs.Trailer.{offset_in, count_in, pointed_of, entries, says_of}
+use Rattle.journal.specs.Order.{verdict_from}
+use Rattle.journal.specs.Trailer.{offset_in, count_in, pointed_of, says_of}
 use Rattle.journal.specs.declared.Entry.{Entry}
-use Rattle.journal.specs.declared.Verdict.TheVariants.{Sound}
-use Rattle.journal.specs.declared.Wanted.TheVariants.{Entries}
+use Rattle.journal.specs.declared.Wanted.{Wanted}
 use Rattle.journal.proofs.Pointing.{pointed, pointed_inside, sound_wanted, wanted_says}
 use Rattle.journal.proofs.ReadBack.{AllSmall, bytes_drop, entry_small, entries_small, pair_back, entries_back, trailer_there}
-use Rattle.journal.proofs.Saying.{Said, as_said}
+use Rattle.journal.proofs.Saying.{Said, as_said, there}
 use Rattle.journal.proofs.Sixteens.{length_entries, length_pair, length_bytes}
 
 -- ---- entries and the trailer behind them
@@ -28,6 +28,10 @@ kept es = bytes_of es ++ pair_bytes 0 (length es)
 kept_length : (es : List Entry) → length (kept es) ≡ journal_length es
 kept_length es = length-append (bytes_of es) (pair_bytes 0 (length es)) ∙ omega (arith, length_bytes es, length_pair 0 (length es))
 
+-- where they lie
+abbrev all : List Entry → Wanted
+all es = record { first = 0; count = length es }
+
 module _ (es : List Entry) (small : AllSmall es) (few : length es < 2 ^ 64) where
   trailer_back : ◌≡◌ {A = Entry} (record { bit = offset_in (kept es); block = count_in (kept es) }) (record { bit = 0; block = length es })
   trailer_back =
@@ -36,16 +40,15 @@ module _ (es : List Entry) (small : AllSmall es) (few : length es < 2 ^ 64) wher
       sym (trailer_there (kept es) (omega (arith, kept_length es)))
       ∙ ap entry_of (drop_at (bytes_of es) pair (length (kept es) - 16) end ∙ sym (append-nil pair)) ∙ pair_back 0 (length es) [] (omega arith) few
 
-  kept_pointed : pointed_of (kept es) ≡ Entries 0 (length es)
+  kept_pointed : pointed_of (kept es) ≡ Ok (all es)
   kept_pointed =
       sym (pointed (kept es) (omega (arith, kept_length es)) (omega (arith, kept_length es)) (sym (ap (λ (e : Entry). e.bit) trailer_back))
       (sym (ap (λ (e : Entry). e.block) trailer_back)) refl (omega (arith, kept_length es)))
 
-  pub kept_says : verdict_from 0 es ≡ Sound → says_of (kept es) ≡ entries es
-  unfolding checked_of
+  pub kept_says : verdict_from 0 es ≡ Ok tt → says_of (kept es) ≡ Ok es
   kept_says sound =
       let back : entries_of (length es) (kept es) ≡ es = entries_back es (pair_bytes 0 (length es)) small in
-      wanted_says (kept es) 0 (length es) (sym (sound_wanted (kept es) 0 (length es) kept_pointed refl (ap (verdict_from 0) back ∙ sound))) ∙ ap entries back
+      wanted_says (kept es) (all es) (sym (sound_wanted (kept es) (all es) kept_pointed (ap (verdict_from 0) back ∙ sound))) ∙ ap Ok back
 
 -- ---- in so many bytes
 
@@ -74,7 +77,7 @@ no_rest es =
 
 -- ---- a journal that says these entries
 
-module _ (s : List ℕ) (bytes : Bytes s) (es : List Entry) (said : says_of s ≡ entries es) where
+module _ (s : List ℕ) (bytes : Bytes s) (es : List Entry) (said : says_of s ≡ Ok es) where
   heard : Said s es
   heard = as_said s es said
 
@@ -82,7 +85,7 @@ module _ (s : List ℕ) (bytes : Bytes s) (es : List Entry) (said : says_of s �
   many = ap length heard.is ∙ length_entries (count_in s) (drop (offset_in s) s)
 
   inside : journal_length es ≤ length s
-  inside = omega (arith, many, pointed_inside s (offset_in s) (count_in s) heard.pointed)
+  inside = omega (arith, many, pointed_inside s (there s) heard.pointed)
 
   small : AllSmall es
   small = subst AllSmall (sym heard.is) (entries_small (count_in s) (drop (offset_in s) s) (bytes_drop (offset_in s) s bytes))
@@ -100,7 +103,7 @@ module _ (s : List ℕ) (bytes : Bytes s) (es : List Entry) (said : says_of s �
   front : take (journal_length es) (compacted_of s) ≡ kept es
   front = ap (take (journal_length es)) settles ∙ journal_front es (length s)
 
-  same : says_of (kept es) ≡ entries es
+  same : says_of (kept es) ≡ Ok es
   same = kept_says es small few heard.sound
 
   compacts : Compacts s es

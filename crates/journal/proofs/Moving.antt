@@ -4,8 +4,8 @@ use mathlib.Core.List.{List, ◌∷◌, ◌++◌, append_assoc}
 use mathlib.Core.Path.{◌≡◌, refl, sym, ap, ap₂, ◌∙◌}
 use Prim.Native.Nat.{ℕ, ◌+◌, ◌-◌, ◌*◌, ◌≤◌, ◌<◌}
 use native.Mathlib.Omega.{arith}
-use lib.ListN.{length, take, drop, take-append-drop}
-use lib.Seq.{drop-drop}
+use lib.ListN.{length, take, drop, length-drop, take-append-drop}
+use lib.Seq.{drop-drop, take_all}
 use Rattle.journal.specs.Entries.{entry_of, entries_of, pair_bytes, bytes_of}
 use Rattle.journal.specs.declared.Entry.{Entry}
 use Rattle.journal.proofs.Sixteens.{entries_next, length_pair, after, put_front, put_behind, put_length}
@@ -31,6 +31,19 @@ none_moved s first count h =
       ahead = omega arith;
       inside = h;
     }
+
+-- an entry read from a place on
+pub read_there : (s : List ℕ) (from : ℕ) {e : Entry} → e ≡ entry_of (take (length s - from) (drop from s)) → e ≡ entry_of (drop from s)
+read_there s from is = is ∙ ap entry_of (take_all (length s - from) (drop from s) (omega (arith, length-drop from s)))
+
+-- by the place of the entry that comes next
+pub next_place : {s₀ : List ℕ} {first count : ℕ} {s : List ℕ} (place : ℕ) → Moved s₀ first count s (first + 16 * place + 16) (16 * place + 16) (count - place - 1)
+    → Moved s₀ first count s (first + 16 * (place + 1)) (16 * (place + 1)) (count - (place + 1))
+next_place {s₀} {first} {count} {s} place m =
+    let a : first + 16 * (place + 1) ≡ first + 16 * place + 16 = omega arith in
+    let b : 16 * (place + 1) ≡ 16 * place + 16 = omega arith in
+    let c : count - (place + 1) ≡ count - place - 1 = omega arith in
+    rw (a, b, c) m
 
 pub all_moved : {s₀ : List ℕ} {first count : ℕ} {s : List ℕ} {from to left : ℕ} → left ≤ 0 → Moved s₀ first count s from to left
     → s ≡ bytes_of (entries_of count (drop first s₀)) ++ drop (16 * count) s₀

@@ -4,6 +4,7 @@ use borrow.Author.Tests.{le-leb, leb-true, lt-ltb, ltb-true}
 use mathlib.Core.Bool.{Bool, true, false, cond}
 use mathlib.Core.List.{List, [], ◌∷◌}
 use mathlib.Core.Path.{◌≡◌, refl}
+use Rattle.std.proofs.Common.{Ok, Err}
 use Prim.Native.Nat.{ℕ, zero, suc, ◌+◌, ◌^◌, ◌≤◌, ◌<◌}
 use native.Mathlib.Omega.{arith}
 use lib.Dec.{leb}
@@ -13,7 +14,6 @@ use Rattle.block.specs.Packed.{fits}
 use Rattle.journal.specs.Laws.{SoundMeansInOrder, SaysInOrder}
 use Rattle.journal.specs.Order.{InOrder, verdict_from}
 use Rattle.journal.specs.declared.Entry.{Entry}
-use Rattle.journal.specs.declared.Verdict.TheVariants.{Sound, Faulty}
 use Rattle.journal.proofs.Saying.{as_said}
 
 abbrev pub Rises : ℕ → List Entry → Type 0
@@ -59,18 +59,18 @@ in_order_rises es o = in_order_from 0 es o (λ i h. omega arith)
 
 -- ---- the verdict
 
-sound_rises : (least : ℕ) (es : List Entry) → verdict_from least es ≡ Sound → Rises least es
+sound_rises : (least : ℕ) (es : List Entry) → verdict_from least es ≡ Ok tt → Rises least es
 unfolding verdict_from
 sound_rises least [] v = tt
 sound_rises least (e ∷ es) v = go (leb least e.bit) refl (fits e.block) refl (sound_rises (e.bit + 1) es) v
   where
-    go : (a : Bool) → leb least e.bit ≡ a → (b : Bool) → fits e.block ≡ b → (verdict_from (e.bit + 1) es ≡ Sound → Rises (e.bit + 1) es)
-        → cond a (cond b (verdict_from (e.bit + 1) es) (Faulty NumberTooWide)) (Faulty NotRising) ≡ Sound → Rises least (e ∷ es)
+    go : (a : Bool) → leb least e.bit ≡ a → (b : Bool) → fits e.block ≡ b → (verdict_from (e.bit + 1) es ≡ Ok tt → Rises (e.bit + 1) es)
+        → cond a (cond b (verdict_from (e.bit + 1) es) (Err NumberTooWide)) (Err NotRising) ≡ Ok tt → Rises least (e ∷ es)
     go true p true q rest w = (leb-true least e.bit p, ltb-true e.block (2 ^ 50) q, rest w)
-    go true p false q rest w = let z : ◌≡◌ {A = ℕ} 0 1 = cc in absurd (omega arith)
-    go false p b q rest w = let z : ◌≡◌ {A = ℕ} 0 1 = cc in absurd (omega arith)
+    go true p false q rest w = cc
+    go false p b q rest w = cc
 
-rises_sound : (least : ℕ) (es : List Entry) → Rises least es → verdict_from least es ≡ Sound
+rises_sound : (least : ℕ) (es : List Entry) → Rises least es → verdict_from least es ≡ Ok tt
 unfolding verdict_from
 rises_sound least [] r = refl
 rises_sound least (e ∷ es) r = rw (le-leb least e.bit r.0, lt-ltb e.block (2 ^ 50) r.1) (rises_sound (e.bit + 1) es r.2)

@@ -1,16 +1,25 @@
 -- A journal settled: entries in front, the trailer behind them, then zeros.
 -- Assumes nothing.
-use mathlib.Core.List.{List, ◌++◌, append_assoc}
+use mathlib.Core.List.{List, ◌++◌, append_assoc, append-nil}
 use mathlib.Core.Path.{◌≡◌, sym, ap, ap₂, ◌∙◌}
 use Prim.Native.Nat.{ℕ, ◌+◌, ◌-◌, ◌*◌, ◌≤◌}
 use native.Mathlib.Omega.{arith}
 use lib.ListN.{length, take, drop, length-append, length-drop}
-use lib.Seq.{take_at}
+use lib.Seq.{take_at, drop-length}
+use borrow.Rule.Slice.PartMut.{mid_of, put_mid, mid_len, Post-is}
 use Rattle.block.specs.Bits.{zeros}
 use Rattle.journal.specs.Compaction.{journal_of, journal_length}
 use Rattle.journal.specs.Entries.{pair_bytes, bytes_of}
 use Rattle.journal.specs.declared.Entry.{Entry}
 use Rattle.journal.proofs.Sixteens.{length_pair, length_bytes, after, put_front, put_length}
+
+-- the bytes behind a place, filled with zeros
+pub cleared : (s : List ℕ) (at : ℕ) {ys : List ℕ} → at ≤ length s → ys ≡ zeros (length (mid_of at (length s - at) s))
+    → put_mid at (length s - at) s ys ≡ take at s ++ zeros (length s - at)
+cleared s at inside is =
+    let l : length (mid_of at (length s - at) s) ≡ length s - at = mid_len at (length s) s (omega arith) in
+    ap₂ (λ (ys rest : List ℕ). take at s ++ (ys ++ rest)) (is ∙ ap zeros l) (Post-is at (length s) s (omega arith) ∙ drop-length s)
+    ∙ ap (λ (t : List ℕ). take at s ++ t) (append-nil (zeros (length s - at)))
 
 module _ (s : List ℕ) (es : List Entry) (count : ℕ) (many : length es ≡ count) (inside : 16 * count + 16 ≤ length s) where
   abbrev end : ℕ

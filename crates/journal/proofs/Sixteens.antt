@@ -1,16 +1,14 @@
 -- Sixteen bytes at a time: the entry at a place, those behind it, and two numbers put into a place.
 -- Assumes nothing.
-use mathlib.Core.List.{List, [], ◌∷◌, ◌++◌, append_assoc}
-use mathlib.Core.Path.{◌≡◌, refl, sym, ap, ap₂, ◌∙◌}
-use Prim.Native.Nat.{ℕ, zero, suc, ◌+◌, ◌-◌, ◌*◌, ◌≤◌, ◌<◌}
-use native.Mathlib.Omega.{arith}
-use lib.ListN.{length, take, drop, length-append, length-drop}
-use lib.Seq.{drop-drop, take_at, drop_at, length-take-le}
+use Rattle.std.proofs.Common.{◌≡◌, ℕ, zero, suc, ◌+◌, ◌-◌, ◌*◌, ◌/◌, ◌≤◌, ◌<◌, List, [], ◌∷◌, ◌++◌, length, get_or, take, drop, refl, sym, ap, ap₂, ◌∙◌, append_assoc, length-append, length-drop, length-take, length-take-le, take-take, drop-drop, take_at, drop_at, arith}
+use Rattle.std.proofs.lemmas.List.{drop-take}
+use Rattle.std.specs.Simd.{first_chunks}
 use Rattle.big_endian.specs.Bytes.{Told}
 use Rattle.big_endian.specs.Digits.{digits, number}
-use Rattle.big_endian.proofs.Bytes.{whole_there}
+use Rattle.big_endian.proofs.Bytes.{whole}
 use Rattle.big_endian.proofs.Digits.{length_digits}
 use Rattle.journal.specs.Entries.{entry_of, entries_of, pair_bytes, bytes_of}
+use Rattle.journal.specs.Salvage.{whole_entries}
 use Rattle.journal.specs.declared.Entry.{Entry}
 
 pub length_entries : (n : ℕ) (s : List ℕ) → length (entries_of n s) ≡ n
@@ -29,13 +27,48 @@ length_bytes (e ∷ es) = length-append (pair_bytes e.bit e.block) (bytes_of es)
 
 -- ---- reading
 
+-- what is told of the two halves of sixteen bytes
+pub entry_read : (s : List ℕ) → 16 ≤ length s → {a b : ℕ} → Told (take 8 s) a → Told (take 8 (drop 8 s)) b → ◌≡◌ {A = Entry} (record { bit = a; block = b }) (entry_of s)
+unfolding entry_of
+entry_read s h one two =
+    ap₂ (λ (a b : ℕ). record { bit = a; block = b }) (whole one (simp length-take (omega arith))) (whole two (simp (length-take, length-drop) (omega arith)))
+
+-- an entry is read from its sixteen bytes alone, and entries from theirs
+pub entry_alone : (s : List ℕ) → entry_of (take 16 s) ≡ entry_of s
+unfolding entry_of
+entry_alone s =
+    let first : take 8 (take 16 s) ≡ take 8 s = take-take 8 16 s (omega arith) in
+    let second : take 8 (drop 8 (take 16 s)) ≡ take 8 (drop 8 s) = ap (take 8) (drop-take 8 8 s) ∙ take-take 8 8 (drop 8 s) (omega arith) in
+    ap₂ (λ (a b : List ℕ). record { bit = number 8 a; block = number 8 b }) first second
+
+pub entries_alone : (n m : ℕ) (s : List ℕ) → 16 * n ≤ m → entries_of n (take m s) ≡ entries_of n s
+unfolding entries_of
+entries_alone zero m s h = refl
+entries_alone (suc n) m s h =
+    ap₂ (λ (e : Entry) (es : List Entry). e ∷ es)
+    (sym (entry_alone (take m s)) ∙ ap entry_of (take-take 16 m s (omega arith)) ∙ entry_alone s)
+    (let more : m ≡ 16 + (m - 16) = omega arith in ap (λ (k : ℕ). entries_of n (drop 16 (take k s))) more ∙ ap (entries_of n) (drop-take 16 (m - 16) s) ∙ entries_alone n (m - 16) (drop 16 s) (omega arith))
+
+-- the entry at a place is that of the chunk there
+pub entry_at_place : (n : ℕ) (s : List ℕ) (i : ℕ) (d : Entry) → i < n → get_or (entries_of n s) i d ≡ entry_of (get_or (first_chunks 16 n s) i [])
+unfolding entries_of
+entry_at_place zero s i d h = absurd (omega arith)
+entry_at_place (suc n) s zero d h = sym (entry_alone s)
+entry_at_place (suc n) s (suc i) d h = entry_at_place n (drop 16 s) i d (omega arith)
+
+pub entry_in_chunks : (s : List ℕ) (i : ℕ) {chunks : List (List ℕ)} (e : Entry) → chunks ≡ first_chunks 16 (length s / 16) s → i < length s / 16
+    → e ≡ entry_of (get_or chunks i []) → get_or (whole_entries s) i e ≡ e
+entry_in_chunks s i e all h is =
+    entry_at_place (length s / 16) s i e h ∙ ap (λ (chunks : List (List ℕ)). entry_of (get_or chunks i [])) (sym all) ∙ sym is
+
 module _ (s : List ℕ) (at : ℕ) where
-  pub entry_there : at + 16 ≤ length s → {a b : ℕ} → Told (take (at + 8 - at) (drop at s)) a → Told (take (at + 8 + 8 - (at + 8)) (drop (at + 8) s)) b
-      → ◌≡◌ {A = Entry} (record { bit = a; block = b }) (entry_of (drop at s))
-  unfolding entry_of
-  entry_there h one two =
-      ap₂ (λ (a b : ℕ). record { bit = a; block = b }) (whole_there s at (omega arith) one)
-      (whole_there s (at + 8) (omega arith) two ∙ ap (λ (t : List ℕ). number 8 (take 8 t)) (sym (drop-drop 8 at s)))
+  -- the whole entries in a part are those that begin there
+  pub entries_part : (n : ℕ) → at + 16 * n ≤ length s → whole_entries (take (at + 16 * n - at) (drop at s)) ≡ entries_of n (drop at s)
+  entries_part n h =
+      let d : at + 16 * n - at ≡ 16 * n = omega arith in
+      let l : length (take (16 * n) (drop at s)) ≡ 16 * n = simp (length-take, length-drop) (omega arith) in
+      let k : 16 * n / 16 ≡ n = omega arith in
+      rw (d, l, k) (entries_alone n (16 * n) (drop at s) (omega arith))
 
   pub entries_next : (left : ℕ) → 0 < left → entries_of left (drop at s) ≡ entry_of (drop at s) ∷ entries_of (left - 1) (drop (at + 16) s)
   unfolding entries_of

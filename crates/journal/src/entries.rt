@@ -1,64 +1,60 @@
 // Entries in a journal's bytes: read, judged and moved.
-ghost use Rattle.std.specs.Prelude.{◌++◌, ◌≡◌, ◌+◌, ◌-◌, ◌*◌, ◌≤◌, leb, length, take, drop};
-ghost use Rattle.block.specs.Bits.{zeros};
+ghost use Rattle.std.specs.Prelude.{◌++◌, ◌≡◌, ◌+◌, ◌*◌, ◌≤◌, length, take, drop};
 ghost use Rattle.journal.specs.Entries.{entry_of, entries_of, pair_bytes, bytes_of};
-ghost use Rattle.journal.specs.Order.{least_after, checked_of};
+ghost use Rattle.journal.specs.Order.{least_after, verdict_on, checked_of};
+ghost use Rattle.journal.specs.Salvage.{whole_entries};
 
-use crate::{Checked, Entry, Verdict};
+use crate::{Checked, Entry, Wanted};
 use big_endian::{number_of, store};
 use refusal::Refusal;
 
-fn entry_at(journal: &[u8], at: usize) -> Entry
-    requires { at + 16 ≤ length journal.now }
-    ensures { result ≡ entry_of (drop at journal.now) }
-{
-    let middle = at + 8;
-    let end = middle + 8;
-    Entry {
-        bit: number_of(&journal[at..middle]),
-        block: number_of(&journal[middle..end]),
+impl Entry {
+    // The entry at the front of some bytes.
+    fn read(bytes: &[u8]) -> Entry
+        requires { 16 ≤ length bytes.now }
+        ensures { result ≡ entry_of bytes.now }
+    {
+        Entry {
+            bit: number_of(&bytes[..8]),
+            block: number_of(&bytes[8..16]),
+        }
     }
-}
 
-// Whether a bit number may come behind so many entries, the last of which has the number `last`.
-fn follows(seen: usize, last: u64, bit: u64) -> bool
-    ensures { result ≡ leb (least_after seen last) bit }
-{
-    if seen == 0 {
-        return true;
-    }
-    last < bit
-}
-
-// Judges entries one after the other, up to the first fault: the order comes before the block's number.
-pub fn check_entries(journal: &[u8], first: usize, count: usize) -> Checked
-    requires { first + 16 * count ≤ length journal.now }
-    ensures { result ≡ checked_of (entries_of count (drop first journal.now)) }
-{
-    let mut seen: usize = 0;
-    let mut last: u64 = 0;
-    while seen < count {
-        let entry = entry_at(journal, first + seen * 16);
-        let next = seen + 1;
-        if follows(seen, last, entry.bit) {
-            if 0x3_FFFF_FFFF_FFFF < entry.block {
-                return Checked {
-                    sound: seen,
-                    verdict: Verdict::Faulty(Refusal::NumberTooWide),
-                };
+    // Whether it may come behind an entry with the bit number `last`: the order comes before the block's number.
+    fn judge(&self, last: Option<u64>) -> Result<(), Refusal>
+        ensures { result ≡ verdict_on (least_after last) self.now }
+    {
+        if let Some(last) = last {
+            if self.bit <= last {
+                return Err(Refusal::NotRising);
             }
-        } else {
+        }
+        if 0x3_FFFF_FFFF_FFFF < self.block {
+            return Err(Refusal::NumberTooWide);
+        }
+        Ok(())
+    }
+}
+
+// Judges the whole entries in some bytes one after the other, up to the first fault.
+pub fn check_entries(bytes: &[u8]) -> Checked
+    ensures { result ≡ checked_of (whole_entries bytes.now) }
+{
+    let (chunks, _) = bytes.as_chunks::<16>();
+    let mut last = None;
+    for (seen, chunk) in chunks.iter().enumerate() {
+        let entry = Entry::read(chunk);
+        if let Err(why) = entry.judge(last) {
             return Checked {
                 sound: seen,
-                verdict: Verdict::Faulty(Refusal::NotRising),
+                verdict: Err(why),
             };
         }
-        last = entry.bit;
-        seen = next;
+        last = Some(entry.bit);
     }
     Checked {
-        sound: seen,
-        verdict: Verdict::Sound,
+        sound: chunks.len(),
+        verdict: Ok(()),
     }
 }
 
@@ -73,31 +69,14 @@ pub fn put_pair(journal: &mut [u8], at: usize, first: u64, second: u64)
     store(&mut journal[middle..end], second);
 }
 
-// Entries from a place on, one after the other, to the front. None is written over before it is read.
-pub fn move_to_front(journal: &mut [u8], first: usize, count: usize)
-    requires { first + 16 * count ≤ length journal.old }
-    ensures { journal.new ≡ bytes_of (entries_of count (drop first journal.old)) ++ drop (16 * count) journal.old }
+// Entries one after the other to the front. None is written over before it is read.
+pub fn move_to_front(journal: &mut [u8], wanted: Wanted)
+    requires { wanted.first + 16 * wanted.count ≤ length journal.old }
+    ensures { journal.new ≡ bytes_of (entries_of wanted.count (drop wanted.first journal.old)) ++ drop (16 * wanted.count) journal.old }
 {
-    let mut from = first;
-    let mut to: usize = 0;
-    let mut left = count;
-    while 0 < left {
-        let entry = entry_at(journal, from);
+    for place in 0..wanted.count {
+        let to = 16 * place;
+        let entry = Entry::read(&journal[wanted.first + to..]);
         put_pair(journal, to, entry.bit, entry.block);
-        from += 16;
-        to += 16;
-        left -= 1;
-    }
-}
-
-// Zeros from a place on.
-pub fn clear_from(journal: &mut [u8], at: usize)
-    requires { at ≤ length journal.old }
-    ensures { journal.new ≡ take at journal.old ++ zeros (length journal.old - at) }
-{
-    let mut i = at;
-    while i < journal.len() {
-        journal[i] = 0;
-        i += 1;
     }
 }

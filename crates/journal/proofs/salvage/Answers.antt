@@ -8,13 +8,13 @@ use Rattle.journal.proofs.salvage.Goals as goal
 pub overflow_mul-kept : goal.overflow_mul-kept
 overflow_mul-kept c =
     let s = c.args.journal.now in
-    omega (arith, kept_is s c.check_entries-checked.ensures, kept_inside s)
+    omega (arith, kept_is s c.check_entries-kept.ensures, kept_inside s)
 
 pub overflow_sub-result : goal.overflow_sub-result
 overflow_sub-result c =
     let s = c.args.journal.now in
-    omega (arith, kept_is s c.check_entries-checked.ensures, kept_inside s)
+    omega (arith, kept_is s c.check_entries-kept.ensures, kept_inside s)
 
 pub returns : goal.returns
 unfolding salvaged_of
-returns c = rw (kept_is c.args.journal.now c.check_entries-checked.ensures)
+returns c = rw (kept_is c.args.journal.now c.check_entries-kept.ensures)
