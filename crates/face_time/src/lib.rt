@@ -2,18 +2,19 @@
 // things.
 #![tactic(auto)]
 
-ghost use Rattle.std.specs.Prelude.{◌≡◌};
+ghost use Rattle.std.specs.Prelude.{◌≡◌, Err, MatchResult};
+ghost use Rattle.refusal.specs.Numbers.{number_of};
 ghost use Rattle.calendar.specs.Dates.{date_of, record_of};
 ghost use Rattle.calendar.specs.NextMinute.{next_minute_of};
 ghost use Rattle.face_time.specs.Face.{word_face, record_face, date_face};
 ghost use Rattle.record.specs.Editions.{edition_of, under};
 ghost use Rattle.record.specs.Words.{read_of, written_of};
-ghost use Rattle.record.specs.declared.Recorded.TheVariants as recorded;
-ghost use Rattle.record.specs.declared.Worded.TheVariants as worded;
-ghost use Rattle.calendar.specs.declared.Dated.TheVariants as dated;
 
-use calendar::{Date, Dated};
-use record::{Named, Record, Recorded, Worded};
+use calendar::Date;
+use record::{Edition, Record};
+use refusal::Refusal;
+
+// The three answers differ in a type alone, but a struct that C sees has no type parameters.
 
 // A word, 0 where refused.
 #[repr(C)]
@@ -39,89 +40,85 @@ pub struct DateAnswer {
     pub given: Date,
 }
 
-fn word_answer(answer: Worded) -> WordAnswer
-    ensures { result ≡ word_face answer }
+// The refusal's number, 0 for none, and the value, zeros where refused.
+fn flat<T: Default + Drop>(answer: Result<T, Refusal>) -> (u8, T)
+    ensures { MatchResult answer (λ value. result ≡ (0, value)) (λ why. (result.0 ≡ number_of why) × T.is_default result.1) }
 {
     match answer {
-        Worded::Given(word) => WordAnswer { refusal: 0, word },
-        Worded::Refused(refusal) => WordAnswer {
-            refusal: refusal::number(refusal),
-            word: 0,
-        },
+        Ok(value) => (0, value),
+        Err(why) => (u8::from(why), T::default()),
     }
 }
 
-fn record_answer(answer: Recorded) -> RecordAnswer
-    ensures { result ≡ record_face answer }
-{
-    match answer {
-        Recorded::Given(given) => RecordAnswer { refusal: 0, given },
-        Recorded::Refused(refusal) => RecordAnswer {
-            refusal: refusal::number(refusal),
-            given: record::zeros(),
-        },
+impl From<Result<u32, Refusal>> for WordAnswer {
+    ghost from_gives = { λ answer flat. flat ≡ word_face answer };
+
+    fn from(answer: Result<u32, Refusal>) -> WordAnswer {
+        let (refusal, word) = flat(answer);
+        WordAnswer { refusal, word }
     }
 }
 
-fn date_answer(answer: Dated) -> DateAnswer
-    ensures { result ≡ date_face answer }
-{
-    match answer {
-        Dated::Given(given) => DateAnswer { refusal: 0, given },
-        Dated::Refused(refusal) => DateAnswer {
-            refusal: refusal::number(refusal),
-            given: Date::zeros(),
-        },
+impl From<Result<Record, Refusal>> for RecordAnswer {
+    ghost from_gives = { λ answer flat. flat ≡ record_face answer };
+
+    fn from(answer: Result<Record, Refusal>) -> RecordAnswer {
+        let (refusal, given) = flat(answer);
+        RecordAnswer { refusal, given }
+    }
+}
+
+impl From<Result<Date, Refusal>> for DateAnswer {
+    ghost from_gives = { λ answer flat. flat ≡ date_face answer };
+
+    fn from(answer: Result<Date, Refusal>) -> DateAnswer {
+        let (refusal, given) = flat(answer);
+        DateAnswer { refusal, given }
     }
 }
 
 #[unsafe(no_mangle)]
 pub extern "C" fn lw_read_record(edition: u16, code: u8, word: u32) -> RecordAnswer
-    ensures { result ≡ record_face (under (edition_of edition) (λ e. read_of e code word) recorded.Refused) }
+    ensures { result ≡ record_face (under (edition_of edition) (λ e. read_of e code word) Err) }
 {
-    match record::edition_of(edition) {
-        Named::Given(edition) => record_answer(record::read_record(edition, code, word)),
-        Named::Refused(why) => record_answer(Recorded::Refused(why)),
-    }
+    let edition = Edition::try_from(edition);
+    let read = edition.and_then(|edition| record::read_record(edition, code, word));
+    RecordAnswer::from(read)
 }
 
 #[unsafe(no_mangle)]
 pub extern "C" fn lw_write_record(edition: u16, given: Record) -> WordAnswer
-    ensures { result ≡ word_face (under (edition_of edition) (λ _. written_of given) worded.Refused) }
+    ensures { result ≡ word_face (under (edition_of edition) (λ _. written_of given) Err) }
 {
-    match record::edition_of(edition) {
-        // Both editions write the same word.
-        Named::Given(_) => word_answer(record::write_record(given)),
-        Named::Refused(why) => word_answer(Worded::Refused(why)),
-    }
+    let edition = Edition::try_from(edition);
+    // Both editions write the same word.
+    let written = edition.and_then(|_| record::write_record(given));
+    WordAnswer::from(written)
 }
 
 #[unsafe(no_mangle)]
 pub extern "C" fn lw_date_of_record(edition: u16, given: Record, first_year: u16) -> DateAnswer
-    ensures { result ≡ date_face (under (edition_of edition) (λ e. date_of e given first_year) dated.Refused) }
+    ensures { result ≡ date_face (under (edition_of edition) (λ e. date_of e given first_year) Err) }
 {
-    match record::edition_of(edition) {
-        Named::Given(edition) => date_answer(calendar::date_of_record(edition, given, first_year)),
-        Named::Refused(why) => date_answer(Dated::Refused(why)),
-    }
+    let edition = Edition::try_from(edition);
+    let date = edition.and_then(|edition| calendar::date_of_record(edition, given, first_year));
+    DateAnswer::from(date)
 }
 
 #[unsafe(no_mangle)]
 pub extern "C" fn lw_record_of_date(edition: u16, date: Date) -> RecordAnswer
-    ensures { result ≡ record_face (under (edition_of edition) (λ e. record_of e date) recorded.Refused) }
+    ensures { result ≡ record_face (under (edition_of edition) (λ e. record_of e date) Err) }
 {
-    match record::edition_of(edition) {
-        Named::Given(edition) => record_answer(calendar::record_of_date(edition, date)),
-        Named::Refused(why) => record_answer(Recorded::Refused(why)),
-    }
+    let edition = Edition::try_from(edition);
+    let record = edition.and_then(|edition| calendar::record_of_date(edition, date));
+    RecordAnswer::from(record)
 }
 
 #[unsafe(no_mangle)]
 pub extern "C" fn lw_next_minute(edition: u16, given: Record) -> RecordAnswer
-    ensures { result ≡ record_face (under (edition_of edition) (λ e. next_minute_of e given) recorded.Refused) }
+    ensures { result ≡ record_face (under (edition_of edition) (λ e. next_minute_of e given) Err) }
 {
-    match record::edition_of(edition) {
-        Named::Given(edition) => record_answer(calendar::next_minute(edition, given)),
-        Named::Refused(why) => record_answer(Recorded::Refused(why)),
-    }
+    let edition = Edition::try_from(edition);
+    let next = edition.and_then(|edition| calendar::next_minute(edition, given));
+    RecordAnswer::from(next)
 }

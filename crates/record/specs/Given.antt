@@ -9,10 +9,13 @@ use Rattle.record.specs.declared.Record.{Record}
 abbrev pub zero_record : Record
 zero_record = record { leap = 0; start_day = 0; week = 0; weekday = 0; hour = 0; minute = 0; offset = pos 0 }
 
+-- of any answer, with what stands for its value where it is refused
+abbrev pub given : {A : Type 0} → A → Result A Refusal → ℕ × A
+given none (Ok value) = (0, value)
+given none (Err why) = (number_of why, none)
+
 abbrev pub given_record : Result Record Refusal → ℕ × Record
-given_record (Ok r) = (0, r)
-given_record (Err why) = (number_of why, zero_record)
+given_record = given zero_record
 
 abbrev pub given_word : Result ℕ Refusal → ℕ × ℕ
-given_word (Ok word) = (0, word)
-given_word (Err why) = (number_of why, 0)
+given_word = given 0
