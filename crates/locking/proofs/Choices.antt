@@ -2,7 +2,8 @@
 -- Assumes nothing.
 use Prim.Native.Nat.{ℕ, ◌+◌, ◌≤◌, ◌<◌}
 use mathlib.Core.Path.{◌≡◌, refl, subst}
-use mathlib.Core.Bool.{Bool, true, false, and-eq-true_iff}
+use native.Mathlib.Omega.{arith}
+use mathlib.Core.Bool.{Bool, true, false}
 use borrow.Author.Tests.{eqb-true, eqb-false, leb-true, leb-false}
 use lib.Dec.{eqb, leb}
 use Rattle.block.specs.Read.{remainder_read}
@@ -14,6 +15,7 @@ use Rattle.timekeeping.specs.declared.Time.{Time}
 use Rattle.timekeeping.specs.Proper.{time_proper}
 use Rattle.timekeeping.specs.Times.{no_time, usable_in, offered_to}
 use Rattle.timekeeping.proofs.Choices.{cond_elim}
+use Rattle.std.proofs.lemmas.Bool.Decides.{nat_tests}
 use Rattle.timekeeping.proofs.NoTime.{zero_time}
 use Rattle.locking.specs.declared.Judged.{Judged}
 use Rattle.locking.specs.declared.Lock.{Lock}
@@ -73,12 +75,7 @@ module _ (edition : Edition) where
   -- any other window is used up
   pub uses_up : (l : Lock) (w : Result Body Refused) → (l.mode ≡ hunting → is_good w ≡ true) → (judged_by edition l w).passed ≡ 0
   unfolding judged_by hunted tried held_on
-  uses_up l w good =
-      let P : Judged → Type 0 = λ j. j.passed ≡ 0 in
-      cond_elim P (eqb l.mode hunting) (λ m. rw (good (eqb-true l.mode hunting m)))
-      (λ _.
-      cond_elim P (eqb l.mode trying) (λ _. cond_elim P (is_good w) (λ _. refl) (λ _. refl))
-      (λ _. cond_elim P (is_good w) (λ _. refl) (λ _. refl)))
+  uses_up l w good = grind (arith, nat_tests)
 
   -- ---- proper locks
 
@@ -89,23 +86,13 @@ module _ (edition : Edition) where
   proper_elim P l e fresh tries held =
       let Q : Bool → Type 0 = λ t. t ≡ true → P l in
       cond_elim Q (eqb l.mode hunting)
-      (λ m h.
-      let good = (and-eq-true_iff (eqb l.good 0) _).0 h in
-      let bad = (and-eq-true_iff (eqb l.bad 0) _).0 good.1 in
-      let all : fresh_lock ≡ l = rw (eqb-true l.mode hunting m, eqb-true l.good 0 good.0, eqb-true l.bad 0 bad.0, zero_time l.time bad.1) in
-      subst P all fresh)
+      (λ m h. let all : fresh_lock ≡ l = grind (arith, nat_tests, zero_time) in subst P all fresh)
       (λ _.
       cond_elim Q (eqb l.mode trying)
       (λ m h.
-      let from = (and-eq-true_iff (leb 1 l.good) _).0 h in
-      let to = (and-eq-true_iff (leb l.good 2) _).0 from.1 in
-      let bad = (and-eq-true_iff (eqb l.bad 0) _).0 to.1 in
-      let all : lock_of trying l.good 0 no_time ≡ l = rw (eqb-true l.mode trying m, eqb-true l.bad 0 bad.0, zero_time l.time bad.1) in
-      subst P all (tries l.good (leb-true 1 l.good from.0) (leb-true l.good 2 to.0)))
+      let all : lock_of trying l.good 0 no_time ≡ l = grind (arith, nat_tests, zero_time) in
+      subst P all (tries l.good (grind (arith, nat_tests)) (grind (arith, nat_tests))))
       (λ _ h.
-      let m = (and-eq-true_iff (eqb l.mode locked) _).0 h in
-      let good = (and-eq-true_iff (eqb l.good 0) _).0 m.1 in
-      let bad = (and-eq-true_iff (leb l.bad 3) _).0 good.1 in
-      let all : lock_of locked 0 l.bad l.time ≡ l = rw (eqb-true l.mode locked m.0, eqb-true l.good 0 good.0) in
-      subst P all (held l.bad l.time (leb-true l.bad 3 bad.0) bad.1)))
+      let all : lock_of locked 0 l.bad l.time ≡ l = grind (arith, nat_tests) in
+      subst P all (held l.bad l.time (grind (arith, nat_tests)) (grind (arith, nat_tests)))))
       e

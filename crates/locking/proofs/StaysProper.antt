@@ -3,8 +3,7 @@
 use Prim.Native.Nat.{ℕ, ◌+◌, ◌≤◌}
 use native.Mathlib.Omega.{arith}
 use mathlib.Core.Path.{◌≡◌, refl}
-use mathlib.Core.Bool.{true, and-eq-true_iff}
-use borrow.Author.Tests.{le-leb, leb-false}
+use mathlib.Core.Bool.{true}
 use lib.Dec.{leb}
 use Rattle.std.specs.Prelude.{Result}
 use Rattle.block.specs.declared.Body.{Body}
@@ -20,6 +19,7 @@ use Rattle.locking.specs.declared.Lock.{Lock}
 use Rattle.locking.specs.Locks.{lock_proper}
 use Rattle.locking.specs.Modes.{is_good, hunted, tried, held_on, judged_by}
 use Rattle.locking.proofs.Choices.{held_elim, proper_elim}
+use Rattle.std.proofs.lemmas.Bool.Decides.{nat_tests}
 
 module _ (edition : Edition) where
   abbrev pub Kept : Judged → Type 0
@@ -29,16 +29,14 @@ module _ (edition : Edition) where
   unfolding tried lock_proper time_proper is_no_time is_zero_record
   tried_proper good w h =
       cond_elim Kept (is_good w)
-      (λ _.
-      cond_elim (λ (l : Lock). lock_proper edition l ≡ true) (leb 3 (good + 1)) (λ _. refl)
-      (λ e. (and-eq-true_iff _ _).1 (le-leb 1 (good + 1) (omega arith), (and-eq-true_iff _ _).1 (le-leb (good + 1) 2 (omega (arith, leb-false 3 (good + 1) e)), refl))))
+      (λ _. cond_elim (λ (l : Lock). lock_proper edition l ≡ true) (leb 3 (good + 1)) (λ _. refl) (λ e. grind (arith, nat_tests)))
       (λ _. refl)
 
   held_proper : (bad : ℕ) (t : Time) (w : Result Body Refused) → bad ≤ 3 → time_proper edition t ≡ true → Kept (held_on edition bad t w)
   unfolding lock_proper is_no_time is_zero_record
   held_proper bad t w h e =
       let o : time_proper edition (offered_to edition t (usable_in edition w)) ≡ true = time_offered edition t (usable_in edition w) (usable_in_lem edition w) e in
-      held_elim edition Kept bad t w o refl (λ f. (and-eq-true_iff _ _).1 (le-leb (bad + 1) 3 (omega arith), o))
+      held_elim edition Kept bad t w o refl (λ f. grind (arith, nat_tests))
 
   hunted_proper : (w : Result Body Refused) → Kept (hunted w)
   unfolding hunted lock_proper is_no_time is_zero_record

@@ -1,9 +1,8 @@
 -- A proper time stays proper, whatever block is offered: it holds what was read as usable, at an age below 120.
 -- Assumes nothing.
-use Rattle.std.proofs.Common.{ℕ, ◌+◌, ◌≡◌, refl, ap, true, false, is_ok}
-use mathlib.Core.Bool.{and-eq-true_iff}
-use borrow.Author.Tests.{lt-ltb, leb-false}
-use lib.Dec.{eqb, leb, ltb}
+use Rattle.std.proofs.Common.{ℕ, ◌+◌, ◌≡◌, refl, ap, true, false, is_ok, arith}
+use Rattle.std.proofs.lemmas.Bool.Decides.{nat_tests}
+use lib.Dec.{eqb, leb}
 use Rattle.std.specs.Prelude.{Result, Ok, Err}
 use Rattle.refusal.specs.declared.Refusal.{Refusal}
 use Rattle.block.specs.declared.Body.{Body}
@@ -14,7 +13,7 @@ use Rattle.record.specs.Words as words
 use Rattle.calendar.specs.Dates.{usable_of}
 use Rattle.calendar.proofs.Answers.{usable_given}
 use Rattle.timekeeping.specs.declared.Time.{Time}
-use Rattle.timekeeping.specs.Times.{none, confirmed, time_of, then_usable, usable_in, confirms, renewed_by, aged_by, offered_to}
+use Rattle.timekeeping.specs.Times.{none, time_of, then_usable, usable_in, confirms, renewed_by, aged_by, offered_to}
 use Rattle.timekeeping.specs.Proper.{is_zero_record, is_no_time, time_proper}
 use Rattle.timekeeping.proofs.Choices.{cond_elim}
 
@@ -31,10 +30,7 @@ module _ (edition : Edition) where
 
   older : (t : Time) → time_proper edition t ≡ true → eqb t.kind none ≡ false → leb 120 (t.age + 1) ≡ false → time_proper edition (time_of t.kind t.held (t.age + 1)) ≡ true
   unfolding time_proper
-  older t e held young =
-      let p = (and-eq-true_iff (leb t.kind confirmed) _).0 (rw held at e) in
-      let q = (and-eq-true_iff (ltb t.age 120) _).0 p.1 in
-      rw (held, p.0, lt-ltb (t.age + 1) 120 (leb-false 120 (t.age + 1) young)) q.1
+  older t e held young = grind (arith, nat_tests)
 
   -- what an offered block leaves is proper
   pub time_offered : (t : Time) (u : Result Record Refusal) → ((r : Record) → u ≡ Ok r → usable_of edition r ≡ Ok r) → time_proper edition t ≡ true → time_proper edition (offered_to edition t u) ≡ true

@@ -4,14 +4,13 @@
 use Prim.Native.Nat.{ℕ, ◌*◌, ◌/◌, ◌%◌, ◌≤◌}
 use native.Mathlib.Omega.{arith}
 use mathlib.Core.Path.{◌≡◌}
-use mathlib.Core.Bool.{true, and-eq-true_iff}
+use mathlib.Core.Bool.{true}
 use mathlib.Core.Logic.{◌↔◌}
-use borrow.Author.Tests.{eqb-true, eq-eqb}
-use lib.Dec.{eqb}
+use borrow.Author.Tests.{eq-eqb}
+use Rattle.std.proofs.lemmas.Bool.Decides.{nat_tests}
 use Rattle.record.specs.declared.Edition.{Edition}
 use Rattle.record.specs.declared.Record.{Record}
-use Rattle.record.specs.Ranges.{within}
-use Rattle.record.proofs.Tests.{between, is_within}
+use Rattle.record.proofs.Tests.{is_within}
 use Rattle.timekeeping.specs.Times.{follows, confirms}
 
 module _ (edition : Edition) where
@@ -25,12 +24,7 @@ module _ (edition : Edition) where
   module _ (age : ℕ) (held r : Record) where
     after : confirms edition age held r ≡ true → AfterMinutes age held r
     unfolding confirms
-    after e =
-        let in-time = (and-eq-true_iff (within 30 age 120) _).0 e in
-        let whole = (and-eq-true_iff (eqb (age % 30) 0) _).0 in-time.1 in
-        let bounds = between 30 age 120 in-time.0 in
-        let left = eqb-true (age % 30) 0 whole.0 in
-        record { minutes = age / 30; from = omega (arith, bounds.0); to = omega (arith, bounds.1); whole = omega arith; later = whole.1 }
+    after e = record { minutes = age / 30; from = grind (arith, nat_tests); to = grind (arith, nat_tests); whole = grind (arith, nat_tests); later = grind (arith, nat_tests) }
 
     by_minutes : AfterMinutes age held r → confirms edition age held r ≡ true
     unfolding confirms
