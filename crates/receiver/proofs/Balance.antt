@@ -34,7 +34,7 @@ abbrev Stepped : ℕ → Step → Type 0
 Stepped n t = MadeUp n t.blocks t.passed t.next.waiting
 
 -- so for a run
-abbrev Balanced : ℕ → Ran → Type 0
+abbrev Balanced : ℕ → Ran State → Type 0
 Balanced n r = MadeUp n (blocks_in r.counts) r.counts.passed r.counts.waiting
 
 module _ (edition : Edition) where
@@ -60,7 +60,7 @@ module _ (edition : Edition) where
       → Balanced (s.waiting + length (bits_before bs)) (run_of edition s bs)
   unfolding run_of
   balance s bs =
-      let P : Ran → Type 0 = λ r. (r.counts.refusal ≡ number_of RunTooLong → ⊥) → (r.counts.refusal ≡ number_of Improper → ⊥)
+      let P : Ran State → Type 0 = λ r. (r.counts.refusal ≡ number_of RunTooLong → ⊥) → (r.counts.refusal ≡ number_of Improper → ⊥)
       → Balanced (s.waiting + length (bits_before bs)) r in
       cond_elim P (ltb 65536 (length bs)) (λ _ long _. absurd (long refl))
       (λ _. cond_elim P (proper_of edition s) (λ e _ _. omega (arith, from_balance bs no_blocks 0 s (room edition s e))) (λ _ _ improper. absurd (improper refl)))

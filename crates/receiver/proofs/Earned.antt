@@ -1,5 +1,7 @@
 -- Confirmed is earned: each step keeps, begins or ends what in the history the held time comes from.
 -- Assumes nothing.
+use Rattle.refusal.specs.declared.Refusal.{Refusal}
+use Rattle.std.specs.Prelude.{Result, Ok, Err}
 use Prim.Native.Nat.{ℕ, ◌+◌, ◌-◌, ◌*◌, ◌≤◌, ◌<◌}
 use native.Mathlib.Omega.{arith}
 use mathlib.Core.Path.{◌≡◌, refl, sym, ap, ◌∙◌}
@@ -10,8 +12,6 @@ use lib.ListN.{length}
 use Rattle.block.specs.Read.{read_of}
 use Rattle.record.specs.declared.Edition.{Edition}
 use Rattle.record.specs.declared.Record.{Record}
-use Rattle.record.specs.declared.Recorded.{Recorded}
-use Rattle.record.specs.declared.Recorded.TheVariants.{Given, Refused}
 use Rattle.timekeeping.specs.declared.Time.{Time}
 use Rattle.timekeeping.specs.Times.{none, candidate, confirmed, time_of, no_time, usable_in, confirms, renewed_by, aged_by, offered_to}
 use Rattle.timekeeping.proofs.Choices.{cond_elim}
@@ -131,10 +131,10 @@ module _ (edition : Edition) where
           cond_elim Offered (eqb s.time none) (λ _. nothing)
           (λ _. cond_elim Offered (leb 120 (s.age + 1)) (λ _. nothing) (λ _. kept _ refl refl (omega arith) (omega arith) (λ _. now)))
 
-      offered : (u : Recorded) → ((r : Record) → u ≡ Given r → TimeBlock edition (l ▹ b) (length (l ▹ b)) r) → Offered (offered_to edition (lock_in s).time u)
+      offered : (u : Result Record Refusal) → ((r : Record) → u ≡ Ok r → TimeBlock edition (l ▹ b) (length (l ▹ b)) r) → Offered (offered_to edition (lock_in s).time u)
       unfolding offered_to
-      offered (Given r) block = renewed r (block r refl)
-      offered (Refused why) block = older
+      offered (Ok r) block = renewed r (block r refl)
+      offered (Err why) block = older
 
   -- ---- every step
 
@@ -149,7 +149,7 @@ module _ (edition : Edition) where
     held_evident : 49 ≤ s.waiting → LockedSince edition l (length l - s.waiting) → Judges (held_on edition s.bad (lock_in s).time (read_of (filled s b)))
     held_evident h since =
         let full : s.waiting ≡ 49 = omega arith in
-        let blocks : (r : Record) → usable_in edition (read_of (filled s b)) ≡ Given r → TimeBlock edition (l ▹ b) (length (l ▹ b)) r = λ r. block_now l b s p h in
+        let blocks : (r : Record) → usable_in edition (read_of (filled s b)) ≡ Ok r → TimeBlock edition (l ▹ b) (length (l ▹ b)) r = λ r. block_now l b s p h in
         held_elim edition Judges s.bad _ (read_of (filled s b)) (λ e. offered l b s v 0 full since (mode_of e) _ blocks) (λ _. no_evidence _ _ refl)
         (λ _ e. offered l b s v (s.bad + 1) full since (mode_of e) _ blocks)
 

@@ -31,7 +31,7 @@ record SameStep (p q : Step) : Type 0 where
   passed : p.passed ≡ q.passed
   next : AlikeStates p.next q.next
 
-record SameRun (p q : Ran) : Type 0 where
+record SameRun (p q : Ran State) : Type 0 where
   counts : p.counts ≡ q.counts
   state : AlikeStates p.state q.state
 
@@ -84,4 +84,4 @@ module _ (a b : Edition) where
   unfolding run_of
   same_counts bits =
       rw ((fresh_proper a).proper, (fresh_proper b).proper)
-      (both (λ (p q : Ran). p.counts ≡ q.counts) (ltb 65536 (length bits)) refl (from_same bits no_blocks 0 fresh_of fresh_of fresh_alike).counts)
+      (both (λ (p q : Ran State). p.counts ≡ q.counts) (ltb 65536 (length bits)) refl (from_same bits no_blocks 0 fresh_of fresh_of fresh_alike).counts)

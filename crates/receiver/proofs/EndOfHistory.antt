@@ -1,6 +1,9 @@
 -- What waits is the end of the history, so the window that a bit fills is that of its last fifty bits; what the history held
 -- before a bit it holds after it; and what each step keeps holds after every history.
 -- Assumes nothing.
+use Rattle.block.specs.declared.Refused.{Refused}
+use Rattle.block.specs.declared.Body.{Body}
+use Rattle.std.specs.Prelude.{Result}
 use Prim.Native.Nat.{ℕ, ◌+◌, ◌-◌, ◌≤◌, ◌<◌}
 use native.Mathlib.Omega.{arith}
 use native.Mathlib.Numerals.{add-one}
@@ -10,7 +13,6 @@ use mathlib.Core.Logic.{⊎_elim}
 use lib.ListN.{length, take, drop, length-append, length-drop, take-append-drop}
 use lib.Seq.{append_snoc, take_all, take-length, take-append-le, drop-append-le, take-suc-set, take_at, drop_at}
 use Rattle.block.specs.Read.{read_of}
-use Rattle.block.specs.declared.Read.{Read}
 use Rattle.record.specs.declared.Edition.{Edition}
 use Rattle.record.proofs.Tests.{le_or_lt}
 use Rattle.locking.specs.declared.Judged.{Judged}
@@ -61,7 +63,7 @@ module _ (l : List ℕ) (b : ℕ) where
       ap (take 50) (drop-append-le (n - 50) l (b ∷ []) (omega arith))
       ∙ take-append-le 50 (drop (n - 50) l) (b ∷ []) (omega (arith, length-drop (n - 50) l))
 
-  pub block_more : {asked : Read → Type 0} {n : ℕ} → BlockTo asked l n → BlockTo asked (l ▹ b) n
+  pub block_more : {asked : Result Body Refused → Type 0} {n : ℕ} → BlockTo asked l n → BlockTo asked (l ▹ b) n
   block_more {n = n} t = record { from = t.from; to = omega (arith, length_more); reads = rw (window_more n t.from t.to) t.reads }
 
   module _ (s : State) (p : Waiting l s) where
@@ -86,7 +88,7 @@ module _ (l : List ℕ) (b : ℕ) where
           ∙ ap (take 50) (drop_at p.ends.0 (filled s b) (length (l ▹ b) - 50) (omega (arith, length_full)))
           ∙ take_all 50 (filled s b) (omega (arith, places_more))
 
-      pub block_now : {asked : Read → Type 0} → asked (read_of (filled s b)) → BlockTo asked (l ▹ b) (length (l ▹ b))
+      pub block_now : {asked : Result Body Refused → Type 0} → asked (read_of (filled s b)) → BlockTo asked (l ▹ b) (length (l ▹ b))
       block_now e = record { from = omega (arith, length_full); to = omega arith; reads = rw window_now e }
 
 module _ (edition : Edition) where

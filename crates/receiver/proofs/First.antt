@@ -18,7 +18,6 @@ use Rattle.block.proofs.Strings.{thirteen}
 use Rattle.block.proofs.Xor.{xor_eq}
 use Rattle.locking.specs.Modes.{is_good}
 use Rattle.receiver.specs.declared.windows.Window.{Window}
-use Rattle.receiver.specs.Windows.{Turned}
 
 -- what x^49 leaves
 abbrev pub first : ℕ
@@ -29,8 +28,8 @@ unfolding remainder_from
 first_is = refl
 
 -- a full window is a number of fifty bits
-pub fifty : (w : Window) → w.waiting ≡ 50 → Turned w → (w.bits < 2 ^ 50) × (w.register ≡ remainder (bits_of 50 w.bits))
-fifty w e t = rw e at t
+pub fifty : (w : Window) → w.waiting ≡ 50 → (w.bits < 2 ^ 50) × (w.register ≡ remainder (bits_of 50 w.bits))
+fifty w e = (rw e at w.few, rw e at w.turned)
 
 module _ (n r : ℕ) (h : n < 2 ^ 50) (e : r ≡ remainder (bits_of 50 n)) where
   pub behind_0 : n < 2 ^ 49 → r ≡ remainder (bits_of 49 n)

@@ -7,28 +7,28 @@ use Prim.Native.Nat.{ℕ, ◌^◌, ◌<◌}
 use borrow.Author.Tests.{lt-ltb, ltb-true}
 use lib.Dec.{ltb}
 use lib.ListN.{length}
+use Rattle.std.specs.Prelude.{Result, Ok, Err}
+use Rattle.std.specs.Result.{result_map_both}
 use Rattle.block.specs.Bits.{Bits, value, value_from}
 use Rattle.block.specs.Packed.{pack_of}
-use Rattle.block.specs.declared.Packed.TheVariants.{Refused}
 use Rattle.refusal.specs.declared.Refusal.{Refusal}
-use Rattle.block.proofs.Packing.{Packs, fifty_lt, not_refused, packs_bits}
+use Rattle.block.proofs.Packing.{fifty_lt, packs, packs_bits}
 use Rattle.block.proofs.Strings.{val_bits_of, bits_of_val, length_bits_of}
 use Rattle.record.specs.declared.Edition.{Edition}
 use Rattle.timekeeping.proofs.Choices.{cond_elim}
 use Rattle.locking.specs.Modes.{no_blocks}
-use Rattle.receiver.specs.declared.PackedRan.{PackedRan}
-use Rattle.receiver.specs.declared.PackedState.{PackedState}
 use Rattle.receiver.specs.declared.Ran.{Ran}
+use Rattle.receiver.specs.declared.PackedState.{PackedState}
 use Rattle.receiver.specs.declared.State.{State}
 use Rattle.receiver.specs.States.{fresh_of, lock_in, proper_of}
 use Rattle.receiver.specs.declared.Counts.{Counts}
 use Rattle.receiver.specs.Runs.{run_of, fed_of}
-use Rattle.receiver.specs.Packed.{packed_of, packed, unpacked, fresh_packed, packed_proper, packed_ran, run_packed, fed_packed}
+use Rattle.receiver.specs.Packed.{packed_of, packed, packing_of, unpacked, fresh_packed, packed_proper, packed_ran, run_packed, fed_packed}
 use Rattle.receiver.proofs.StaysProper.{Proper, bits_and_lock, from_proper, fresh_proper}
 use Rattle.receiver.proofs.Numbers.{proper_bits}
 use Rattle.receiver.proofs.Together.{fed_run}
 
-abbrev pub ran_of : Counts → State → Ran
+abbrev pub ran_of : Counts → State → Ran State
 ran_of counts s = record { counts = counts; state = s }
 
 -- ---- from the fifty places and back
@@ -44,6 +44,14 @@ module _ (s : State) (f : FiftyBits s) where
 
   pub packed_small : (packed s).bits < 2 ^ 50
   packed_small = fifty_lt s.bits f.places f.bits
+
+-- what packs is fifty bits, and becomes their number
+packs_as : (s : State) (p : PackedState) → packing_of s ≡ Ok p → FiftyBits s × (p ≡ packed s)
+packs_as s p e = by (pack_of s.bits) refl e
+  where
+    by : (d : Result ℕ Refusal) → pack_of s.bits ≡ d → result_map_both (packed_of (lock_in s) s.waiting) (λ why. why) d ≡ Ok p → FiftyBits s × (p ≡ packed s)
+    by (Ok n) k e = let q = packs s.bits n k in let d : packed_of (lock_in s) s.waiting n ≡ p = cc in (record { places = q.size; bits = q.bits }, rw q.number (sym d))
+    by (Err why) k e = absurd cc
 
 pub fresh_packed_lem : fresh_packed ≡ packed fresh_of
 unfolding fresh_of value_from
@@ -68,7 +76,7 @@ module _ (edition : Edition) where
   pub run_fifty : (s : State) (bs : List ℕ) → FiftyBits s → FiftyBits (run_of edition s bs).state
   unfolding run_of
   run_fifty s bs f =
-      let P : Ran → Type 0 = λ r. FiftyBits r.state in
+      let P : Ran State → Type 0 = λ r. FiftyBits r.state in
       cond_elim P (ltb 65536 (length bs)) (λ _. f)
       (λ _.
       cond_elim P (proper_of edition s) (λ e. proper_fifty _ (from_proper edition bs no_blocks 0 s (record { places = f.places; proper = e }))) (λ _. f))
@@ -85,14 +93,14 @@ module _ (edition : Edition) where
     pub run_unpacked : (bs : List ℕ) → run_packed edition p bs ≡ packed_ran (run_of edition (unpacked p) bs)
     unfolding run_packed run_of
     run_unpacked bs =
-        let P : PackedRan → Type 0 = λ r. r ≡ packed_ran (run_of edition (unpacked p) bs) in
+        let P : Ran PackedState → Type 0 = λ r. r ≡ packed_ran (run_of edition (unpacked p) bs) in
         cond_elim P (ltb 65536 (length bs)) (λ e. rw (e, back_and_there p h))
         (λ e. cond_elim P (packed_proper edition p) (λ _. refl) (λ f. rw (e, ← same_test, f, back_and_there p h)))
 
     -- and so does one bit
     pub fed_unpacked : (b : ℕ) → fed_packed edition p b ≡ packed_ran (fed_of edition (unpacked p) b)
     unfolding fed_packed fed_of
-    fed_unpacked b = cond_elim (λ (r : PackedRan). r ≡ packed_ran (fed_of edition (unpacked p) b)) (packed_proper edition p) (λ _. refl) (λ f. rw (← same_test, f, back_and_there p h))
+    fed_unpacked b = cond_elim (λ (r : Ran PackedState). r ≡ packed_ran (fed_of edition (unpacked p) b)) (packed_proper edition p) (λ _. refl) (λ f. rw (← same_test, f, back_and_there p h))
 
   -- the answers to fifty bits, packed, are their own answers, packed
   pub run_packed_lem : (s : State) (bs : List ℕ) → FiftyBits s → run_packed edition (packed s) bs ≡ packed_ran (run_of edition s bs)
@@ -102,25 +110,19 @@ module _ (edition : Edition) where
   fed_packed_lem s b f = fed_unpacked (packed s) (packed_small s f) b ∙ rw (there_and_back s f)
 
   -- a state whose places pack, run in the other layout and unpacked again
-  module _ (s : State) (n : ℕ) (k : Packs s.bits n) (p : PackedState) (e : p ≡ packed_of (lock_in s) s.waiting n) (bs : List ℕ) (r : PackedRan) (d : r ≡ run_packed edition p bs) where
-    fifty : FiftyBits s
-    fifty = record { places = k.size; bits = k.bits }
-
-    ran : r ≡ packed_ran (run_of edition s bs)
-    ran = rw (d, e, ← k.number) (run_packed_lem s bs fifty)
-
-    pub ran_small : r.state.bits < 2 ^ 50
-    ran_small = rw ran (packed_small _ (run_fifty s bs fifty))
-
-    pub ran_back : (t : State) → t ≡ unpacked r.state → ran_of r.counts t ≡ run_of edition s bs
-    ran_back t f = rw (f, ran, there_and_back _ (run_fifty s bs fifty))
+  pub ran_back : (s : State) (p : PackedState) → packing_of s ≡ Ok p → (bs : List ℕ) (r : Ran PackedState) → r ≡ run_packed edition p bs
+      → (t : State) → t ≡ unpacked r.state → ran_of r.counts t ≡ run_of edition s bs
+  ran_back s p e bs r d t f =
+      let q = packs_as s p e in
+      let ran : r ≡ packed_ran (run_of edition s bs) = rw (d, q.1) (run_packed_lem s bs q.0) in
+      rw (f, ran, there_and_back _ (run_fifty s bs q.0))
 
   -- places that do not pack are not proper
-  pub not_proper : (s : State) → length s.bits ≡ 50 → (why : Refusal) → pack_of s.bits ≡ Refused why → proper_of edition s ≡ false
+  pub not_proper : (s : State) → length s.bits ≡ 50 → (why : Refusal) → packing_of s ≡ Err why → proper_of edition s ≡ false
   not_proper s l why e = by (proper_of edition s) refl
     where
       by : (t : Bool) → proper_of edition s ≡ t → t ≡ false
-      by true p = let f = proper_fifty s (record { places = l; proper = p }) in absurd (not_refused (sym (packs_bits s.bits l f.bits) ∙ e))
+      by true p = let f = proper_fifty s (record { places = l; proper = p }) in let k : ◌≡◌ {A = Result PackedState Refusal} (Ok (packed s)) (Err why) = rw (packs_bits s.bits l f.bits) at e in absurd cc
       by false p = refl
 
   -- one fed bit answers as a run of that bit alone

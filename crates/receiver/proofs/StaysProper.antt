@@ -96,14 +96,14 @@ module _ (edition : Edition) where
   unfolding run_from
   from_proper [] blocks passed s p = p
   from_proper (b ∷ bs) blocks passed s p =
-      cond_elim (λ (r : Ran). Proper r.state) (ltb b 2) (λ c. from_proper bs _ _ (step_of edition s b).next (step_proper s b (ltb-true b 2 c) p)) (λ _. p)
+      cond_elim (λ (r : Ran State). Proper r.state) (ltb b 2) (λ c. from_proper bs _ _ (step_of edition s b).next (step_proper s b (ltb-true b 2 c) p)) (λ _. p)
 
   -- so does a run, refused or not
   pub run_proper : (s : State) (bs : List ℕ) → Proper s → Proper (run_of edition s bs).state
   unfolding run_of
   run_proper s bs p =
-      cond_elim (λ (r : Ran). Proper r.state) (ltb 65536 (length bs)) (λ _. p)
-      (λ _. cond_elim (λ (r : Ran). Proper r.state) (proper_of edition s) (λ _. from_proper bs no_blocks 0 s p) (λ _. p))
+      cond_elim (λ (r : Ran State). Proper r.state) (ltb 65536 (length bs)) (λ _. p)
+      (λ _. cond_elim (λ (r : Ran State). Proper r.state) (proper_of edition s) (λ _. from_proper bs no_blocks 0 s p) (λ _. p))
 
   pub fresh_proper : Proper fresh_of
   unfolding fresh_of proper_of bits_proper lock_proper is_no_time is_zero_record

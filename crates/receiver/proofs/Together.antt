@@ -27,7 +27,7 @@ use Rattle.receiver.proofs.StaysProper.{Proper, run_proper}
 -- ---- the counts
 
 -- a run with more counted before it
-abbrev pub counted : Blocks → ℕ → Ran → Ran
+abbrev pub counted : Blocks → ℕ → Ran State → Ran State
 counted blocks passed r =
     record {
       counts = counts_of r.counts.refusal (plus blocks (blocks_in r.counts)) (passed + r.counts.passed) r.counts.waiting;
@@ -35,7 +35,7 @@ counted blocks passed r =
     }
 
 -- a run with its refusal changed to that of a bit that is none
-abbrev pub stopped : Ran → Ran
+abbrev pub stopped : Ran State → Ran State
 stopped r = record { counts = counts_of (number_of NotABit) (blocks_in r.counts) r.counts.passed r.counts.waiting; state = r.state }
 
 module _ (edition : Edition) where
@@ -53,7 +53,7 @@ module _ (edition : Edition) where
   from_counted [] before over blocks passed s = refl
   from_counted (b ∷ bs) before over blocks passed s =
       let t : Step = step_of edition s b in
-      cond_elim (λ (r : Ran). run_from edition (b ∷ bs) (plus before blocks) (over + passed) s ≡ counted before over r) (ltb b 2)
+      cond_elim (λ (r : Ran State). run_from edition (b ∷ bs) (plus before blocks) (over + passed) s ≡ counted before over r) (ltb b 2)
       (λ e. rw (e, plus_assoc before blocks t.blocks, add_assoc over passed t.passed) (from_counted bs before over _ _ t.next))
       (λ e. rw e)
 
@@ -63,7 +63,7 @@ module _ (edition : Edition) where
   pub from_waiting : (xs : List ℕ) (blocks : Blocks) (passed : ℕ) (s : State) → (run_from edition xs blocks passed s).counts.waiting ≡ (run_from edition xs blocks passed s).state.waiting
   unfolding run_from
   from_waiting [] blocks passed s = refl
-  from_waiting (x ∷ xs) blocks passed s = cond_elim (λ (r : Ran). r.counts.waiting ≡ r.state.waiting) (ltb x 2) (λ _. from_waiting xs _ _ (step_of edition s x).next) (λ _. refl)
+  from_waiting (x ∷ xs) blocks passed s = cond_elim (λ (r : Ran State). r.counts.waiting ≡ r.state.waiting) (ltb x 2) (λ _. from_waiting xs _ _ (step_of edition s x).next) (λ _. refl)
 
   -- a run of bits is not refused
   pub from_bits : (xs : List ℕ) (blocks : Blocks) (passed : ℕ) (s : State) → Bits xs → (run_from edition xs blocks passed s).counts.refusal ≡ 0
@@ -72,7 +72,7 @@ module _ (edition : Edition) where
   from_bits (x ∷ xs) blocks passed s h = rw (lt-ltb x 2 h.0) (from_bits xs _ _ (step_of edition s x).next h.1)
 
   -- a run goes on with ys
-  abbrev onwards : List ℕ → Ran → Ran
+  abbrev onwards : List ℕ → Ran State → Ran State
   onwards ys r = run_from edition ys (blocks_in r.counts) r.counts.passed r.state
 
   from_append : (xs ys : List ℕ) (blocks : Blocks) (passed : ℕ) (s : State) → Bits xs → run_from edition (xs ++ ys) blocks passed s ≡ onwards ys (run_from edition xs blocks passed s)
@@ -80,7 +80,7 @@ module _ (edition : Edition) where
   from_append [] ys blocks passed s h = refl
   from_append (x ∷ xs) ys blocks passed s h = rw (lt-ltb x 2 h.0) (from_append xs ys _ _ (step_of edition s x).next h.1)
 
-  onwards_counted : (ys : List ℕ) (r : Ran) → onwards ys r ≡ counted (blocks_in r.counts) r.counts.passed (run_from edition ys no_blocks 0 r.state)
+  onwards_counted : (ys : List ℕ) (r : Ran State) → onwards ys r ≡ counted (blocks_in r.counts) r.counts.passed (run_from edition ys no_blocks 0 r.state)
   onwards_counted ys r = simp add-zero at (from_counted ys (blocks_in r.counts) r.counts.passed no_blocks 0 r.state)
 
   -- a run of bits is the step of the first and then the run of the others, with what both count and tell

@@ -65,7 +65,7 @@ module _ (edition : Edition) where
       by : (bit : Bool) → ltb b 2 ≡ bit → Tells (last_told edition (step_of edition s b).next (bits_before bs)) (run_from edition bs no_blocks 0 (step_of edition s b).next).counts.remainder
           → Tells (last_told edition s (bits_before (b ∷ bs))) (run_from edition (b ∷ bs) no_blocks 0 s).counts.remainder
       by true e on =
-          subst (λ (r : Ran). Tells (last_told edition s (bits_before (b ∷ bs))) r.counts.remainder) (sym (from_next edition b bs s (ltb-true b 2 e)))
+          subst (λ (r : Ran State). Tells (last_told edition s (bits_before (b ∷ bs))) r.counts.remainder) (sym (from_next edition b bs s (ltb-true b 2 e)))
           (rw e (both_tell (told_with edition s b) (last_told edition (step_of edition s b).next (bits_before bs)) _ _ (step_tells s b) on))
       by false e on = rw e refl
 

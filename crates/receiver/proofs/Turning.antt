@@ -1,6 +1,9 @@
 -- A run bit by bit on the number of the bits that wait, as the loop goes: a bit joins it, and a full window passes its oldest bit
 -- over or is judged and used up. Beside the number stands what the circuit makes of it.
 -- Assumes nothing.
+use Rattle.block.specs.declared.Refused.{Refused}
+use Rattle.block.specs.declared.Body.{Body}
+use Rattle.std.specs.Prelude.{Result}
 use mathlib.Core.Bool.{Bool, true, false, not, ◌&&◌, and-eq-true_iff}
 use mathlib.Core.List.{List, ◌∷◌}
 use mathlib.Core.Path.{◌≡◌, refl, sym, ap, ◌∙◌}
@@ -16,7 +19,6 @@ use Rattle.block.specs.Bits.{bits_of}
 use Rattle.block.specs.Division.{step_bit, remainder_from, remainder}
 use Rattle.block.specs.Packed.{read_by}
 use Rattle.block.specs.Read.{read_of}
-use Rattle.block.specs.declared.Read.{Read}
 use Rattle.block.proofs.Reading.{number_reads}
 use Rattle.block.proofs.Stream.{at_the_end, in_front}
 use Rattle.record.specs.declared.Edition.{Edition}
@@ -89,7 +91,7 @@ module _ (edition : Edition) where
     entered el ew en until bits = rw (el, ew, en, ← in_places)
 
   -- the test for passing over, and what it comes to
-  module _ (l : Lock) (w : Read) (t : Bool) (e : t ≡ (eqb l.mode hunting && not (is_good w))) where
+  module _ (l : Lock) (w : Result Body Refused) (t : Bool) (e : t ≡ (eqb l.mode hunting && not (is_good w))) where
     pub is_over : lock_proper edition l ≡ true → t ≡ true → passed_over l ≡ judged_by edition l w
     is_over proper k =
         let both = (and-eq-true_iff (eqb l.mode hunting) _).0 (sym e ∙ k) in

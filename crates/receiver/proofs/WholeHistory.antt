@@ -61,12 +61,12 @@ module _ (edition : Edition) where
   unfolding run_from bits_before after_from
   from_after [] blocks passed s = refl
   from_after (b ∷ bs) blocks passed s =
-      cond_elim (λ (r : Ran). r.state ≡ after_from edition s (bits_before (b ∷ bs))) (ltb b 2) (λ e. rw e (from_after bs _ _ (step_of edition s b).next)) (λ e. rw e)
+      cond_elim (λ (r : Ran State). r.state ≡ after_from edition s (bits_before (b ∷ bs))) (ltb b 2) (λ e. rw e (from_after bs _ _ (step_of edition s b).next)) (λ e. rw e)
 
   run_after : (s : State) (bs : List ℕ) → proper_of edition s ≡ true → (run_of edition s bs).state ≡ after_from edition s (bits_fed bs)
   unfolding run_of bits_fed after_from
   run_after s bs p =
-      rw p (cond_elim (λ (r : Ran). r.state ≡ after_from edition s (bits_fed bs)) (ltb 65536 (length bs)) (λ e. rw e) (λ e. rw e (from_after bs no_blocks 0 s)))
+      rw p (cond_elim (λ (r : Ran State). r.state ≡ after_from edition s (bits_fed bs)) (ltb 65536 (length bs)) (λ e. rw e) (λ e. rw e (from_after bs no_blocks 0 s)))
 
   all_after : (s : State) (runs : List (List ℕ)) → Proper edition s → ran_all edition s runs ≡ after_from edition s (fed_all runs)
   unfolding ran_all fed_all after_from

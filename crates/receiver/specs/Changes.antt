@@ -9,7 +9,7 @@ use Rattle.record.specs.declared.Edition.{Edition}
 use Rattle.locking.specs.declared.Blocks.{Blocks}
 use Rattle.locking.specs.declared.Lock.{Lock}
 use Rattle.locking.specs.Locks.{locked}
-use Rattle.receiver.specs.declared.PackedRan.{PackedRan}
+use Rattle.receiver.specs.declared.Ran.{Ran}
 use Rattle.receiver.specs.declared.PackedState.{PackedState}
 use Rattle.receiver.specs.declared.State.{State}
 use Rattle.receiver.specs.declared.Stretch.{Stretch}
@@ -17,9 +17,9 @@ use Rattle.receiver.specs.declared.Until.{Until}
 use Rattle.receiver.specs.declared.Until.TheVariants.{LastBit, LockChange, AnyChange}
 use Rattle.receiver.specs.States.{lock_in}
 use Rattle.receiver.specs.Steps.{step_of}
-use Rattle.receiver.specs.Runs.{run_from, run_of}
+use Rattle.receiver.specs.Runs.{refused_run, run_from, run_of}
 use Rattle.receiver.specs.History.{bits_before}
-use Rattle.receiver.specs.Packed.{unpacked, packed_proper, packed_ran, refused_packed}
+use Rattle.receiver.specs.Packed.{unpacked, packed_proper, packed_ran}
 
 -- of two modes, one before and one after: both are locked, or neither is
 unfoldable pub same_lock : ℕ → ℕ → Bool
@@ -40,7 +40,7 @@ up_to edition until s (b ∷ bs) =
     b ∷ cond (runs_on until (lock_in s) (lock_in t)) (up_to edition until t bs) []
 
 -- a run, and how many bits it fed
-abbrev pub with_fed : PackedRan → ℕ → Stretch
+abbrev pub with_fed : Ran PackedState → ℕ → Stretch
 with_fed ran fed = record { ran = ran; fed = fed }
 
 -- the bits one after the other, with what was fed and counted before; those before the first that is no bit are fed
@@ -49,7 +49,7 @@ stretch_from edition bs fed blocks passed s = with_fed (packed_ran (run_from edi
 
 -- refused before any bit is fed
 abbrev pub refused_stretch : Refusal → PackedState → Stretch
-refused_stretch why p = with_fed (refused_packed (number_of why) p) 0
+refused_stretch why p = with_fed (refused_run (number_of why) p) 0
 
 -- More than 65,536 bits get 9, then a state that is not proper 10. Else it is the run of the bits up to where it stops; those
 -- before the first that is no bit are fed

@@ -1,12 +1,12 @@
 -- What was fed, looked back on: the bits that runs feed, the state after a history of bits, and what in the history a lock, a
 -- held and a confirmed time come from (01, "Hunting, trying, locked").
 -- Assumes nothing.
-use Rattle.std.specs.Prelude.{ℕ, ◌+◌, ◌-◌, ◌*◌, ◌≤◌, ◌<◌, ◌≡◌, true, cond, List, [], ◌∷◌, ◌++◌, ltb, length, take, drop}
+use Rattle.block.specs.declared.Refused.{Refused}
+use Rattle.block.specs.declared.Body.{Body}
+use Rattle.std.specs.Prelude.{ℕ, ◌+◌, ◌-◌, ◌*◌, ◌≤◌, ◌<◌, ◌≡◌, true, cond, List, [], ◌∷◌, ◌++◌, ltb, length, take, drop, Result, Ok}
 use Rattle.block.specs.Read.{read_of}
-use Rattle.block.specs.declared.Read.{Read}
 use Rattle.record.specs.declared.Edition.{Edition}
 use Rattle.record.specs.declared.Record.{Record}
-use Rattle.record.specs.declared.Recorded.TheVariants.{Given}
 use Rattle.timekeeping.specs.Times.{no_time, usable_in, follows}
 use Rattle.locking.specs.Locks.{locked, lock_of}
 use Rattle.locking.specs.Modes.{is_good, judged_by}
@@ -52,7 +52,7 @@ window_to n history = take 50 (drop (n - 50) history)
 -- ---- blocks in a history
 
 -- fifty bits end after the first n, and reading them gives what is asked
-pub record BlockTo (asked : Read → Type 0) (history : List ℕ) (n : ℕ) : Type 0 where
+pub record BlockTo (asked : Result Body Refused → Type 0) (history : List ℕ) (n : ℕ) : Type 0 where
   pub from : 50 ≤ n
   pub to : n ≤ length history
   pub reads : asked (read_of (window_to n history))
@@ -63,7 +63,7 @@ GoodBlock history n = BlockTo (λ w. is_good w ≡ true) history n
 
 -- a usable time block with the record r
 abbrev pub TimeBlock : Edition → List ℕ → ℕ → Record → Type 0
-TimeBlock edition history n r = BlockTo (λ w. usable_in edition w ≡ Given r) history n
+TimeBlock edition history n r = BlockTo (λ w. usable_in edition w ≡ Ok r) history n
 
 -- the block that ends after the first n bits was judged in its place: the lock after it is what its window makes of the lock
 -- before it, and all fifty bits are used up

@@ -1,5 +1,5 @@
 -- In reading order: the state, one bit, a run, what was fed, looked back on, the remainder told, the state with its bits as one
--- number, a run that ends where lock changes, and the window with its circuit.
+-- number, and a run that ends where lock changes.
 pub mod States
 pub mod Steps
 pub mod Runs
@@ -7,4 +7,3 @@ pub mod History
 pub mod Told
 pub mod Packed
 pub mod Changes
-pub mod Windows

@@ -1,9 +1,10 @@
 -- The remainder that a run tells, in the words of the request (02, No. 7): that of the last among its bad blocks that were refused with
 -- 4, or 0. A window that is passed over is no bad block, and a later bad block refused with 3 does not clear what was told.
 -- Assumes nothing.
-use Rattle.std.specs.Prelude.{ℕ, ◌≤◌, true, cond, ◌&&◌, List, [], ◌∷◌, ◌≡◌, eqb, length, set}
+use Rattle.block.specs.declared.Refused.{Refused}
+use Rattle.block.specs.declared.Body.{Body}
+use Rattle.std.specs.Prelude.{ℕ, ◌≤◌, true, cond, ◌&&◌, List, [], ◌∷◌, ◌≡◌, eqb, length, set, Result}
 use Rattle.std.proofs.Math.Option.{Option, none, some, get_or, or_else}
-use Rattle.block.specs.declared.Read.{Read}
 use Rattle.block.specs.Read.{read_of, refusal_in, remainder_read}
 use Rattle.record.specs.declared.Edition.{Edition}
 use Rattle.locking.specs.declared.Blocks.{Blocks}
@@ -14,7 +15,7 @@ use Rattle.receiver.specs.Runs.{run_of}
 use Rattle.receiver.specs.History.{bits_before}
 
 -- the remainder of a window that reads so, where it counts as a bad block and is refused with 4
-abbrev pub told_by : Read → Blocks → Option ℕ
+abbrev pub told_by : Result Body Refused → Blocks → Option ℕ
 told_by w blocks = cond (eqb blocks.bad 1 && eqb (refusal_in w) 4) (some (remainder_read w)) none
 
 -- that of the window which this bit fills, if it fills one

@@ -9,19 +9,19 @@ ghost use Rattle.refusal.specs.Numbers.{number_of};
 ghost use Rattle.locking.specs.Modes.{no_blocks};
 ghost use Rattle.receiver.specs.Changes.{same_lock, runs_on, up_to, with_fed, stretch_from, stretch_of};
 ghost use Rattle.receiver.specs.Packed.{fresh_packed, unpacked, packed_proper, ended_packed, run_packed, fed_packed};
-ghost use Rattle.receiver.specs.Runs.{later, plus, counts_of, run_of, fed_of};
+ghost use Rattle.receiver.specs.Runs.{later, plus, counts_of, refused_run, run_of, fed_of};
 ghost use Rattle.receiver.specs.States.{fresh_of};
 
-use block::{Packed, read_by};
+use block::read_by;
 use locking::{Blocks, Lock, judge};
 use record::{Edition, Record};
 use refusal::Refusal;
-use states::{kept, lock_in, packed_of, packed_with, unpack};
-use windows::{behind_first, empty, is_passed_over, join, move_on, weight, window_in};
+use states::{kept, lock_in, packed_of};
+use windows::{Window, weight};
 
 // The state, as it is lent: plain numbers, and what is not in use is 0.
 #[repr(C)]
-#[derive(Clone, Copy, Drop)]
+#[derive(Clone, Copy)]
 pub struct State {
     pub mode: u8,
     pub good: u8,
@@ -33,9 +33,10 @@ pub struct State {
     pub age: u8,
 }
 
-// The same with its waiting bits as one number: the first in place 49, the next in 48, and what is not in use is 0.
+// The same with its waiting bits as one number: the first in place 49, the next in 48, and what is not in use is 0. Two structs, and
+// not one over the type of the bits: what `lw_feed` and `lw_feed_packed` are lent can have no type parameter.
 #[repr(C)]
-#[derive(Clone, Copy, Drop)]
+#[derive(Clone, Copy)]
 pub struct PackedState {
     pub mode: u8,
     pub good: u8,
@@ -49,7 +50,7 @@ pub struct PackedState {
 
 // What a run counts, and the remainder of its last bad block refused with 4.
 #[repr(C)]
-#[derive(Drop)]
+#[derive(Default, Drop)]
 pub struct Counts {
     pub refusal: u8,
     pub good: u32,
@@ -59,22 +60,16 @@ pub struct Counts {
     pub remainder: u16,
 }
 
-// A run's counts and the state after it.
+// A run's counts and what it ran into, as it is then.
 #[derive(Drop)]
-pub struct Ran {
+pub struct Ran<S> {
     pub counts: Counts,
-    pub state: State,
-}
-
-#[derive(Drop)]
-pub struct PackedRan {
-    pub counts: Counts,
-    pub state: PackedState,
+    pub state: S,
 }
 
 // Where a run ends: with its last bit, or before it with the bit with which lock comes or goes, or with one with which that or the
-// kind of the time changes.
-#[derive(Clone, Copy, Drop)]
+// kind of the time changes. An enum and no closure: the laws over runs ask of each way that it goes on behind a bit that changes nothing.
+#[derive(Clone, Copy)]
 pub enum Until {
     LastBit,
     LockChange,
@@ -84,7 +79,7 @@ pub enum Until {
 // A run, and how many bits it fed.
 #[derive(Drop)]
 pub struct Stretch {
-    pub ran: PackedRan,
+    pub ran: Ran<PackedState>,
     pub fed: usize,
 }
 
@@ -96,6 +91,7 @@ pub fn fresh_packed() -> PackedState
 }
 
 // Whether a state is proper, by the edition of the call.
+#[tactic(auto, using(std::proofs::lemmas::Bool::Decides::nat_tests, crate::proofs::Numbers::proper_number), unfolding(crate::specs::Packed::packed_proper, crate::specs::States::proper_of))]
 pub fn is_proper(edition: Edition, state: PackedState) -> bool
     ensures { result ≡ packed_proper edition state }
 {
@@ -128,35 +124,23 @@ fn counted(refusal: u8, blocks: Blocks, waited: u32, fed: usize, state: PackedSt
         waiting,
         remainder: blocks.remainder,
     };
-    let ran = PackedRan { counts, state };
+    let ran = Ran { counts, state };
     Stretch { ran, fed }
 }
 
-// Refused before any bit is fed: nothing is counted or told.
-pub fn refused(why: Refusal) -> Counts
-    ensures { result ≡ counts_of (number_of why) no_blocks 0 0 }
+// Refused before any bit is fed: nothing is counted or told, and the state is as it was.
+pub fn refused<S>(why: Refusal, state: S) -> Ran<S>
+    ensures { result ≡ refused_run (number_of why) state }
 {
-    Counts {
-        refusal: refusal::number(why),
-        good: 0,
-        bad: 0,
-        passed: 0,
-        waiting: 0,
-        remainder: 0,
-    }
-}
-
-fn no_blocks() -> Blocks
-    ensures { result ≡ no_blocks }
-{
-    Blocks {
-        good: 0,
-        bad: 0,
-        remainder: 0,
-    }
+    let counts = Counts {
+        refusal: u8::from(why),
+        ..Counts::default()
+    };
+    Ran { counts, state }
 }
 
 // Of two remainders the later one, but 0 tells nothing.
+#[tactic(auto, using(std::proofs::lemmas::Bool::Decides::nat_tests))]
 pub fn later(before: u16, after: u16) -> u16
     ensures { result ≡ later before after }
 {
@@ -179,16 +163,18 @@ fn more(before: Blocks, after: Blocks) -> Blocks
 }
 
 // Whether lock comes or goes, by the modes before and after.
+#[tactic(auto, using(std::proofs::lemmas::Bool::Decides::nat_tests), unfolding(crate::specs::Changes::same_lock))]
 fn lock_changes(before: u8, after: u8) -> bool
     ensures { result ≡ not (same_lock before after) }
 {
-    if before == 2 {
-        return after != 2;
+    if before == Lock::LOCKED {
+        return after != Lock::LOCKED;
     }
-    after == 2
+    after == Lock::LOCKED
 }
 
 // Whether a run ends here, by the locks before and after.
+#[tactic(auto, using(std::proofs::lemmas::Bool::Decides::nat_tests), unfolding(crate::specs::Changes::runs_on))]
 fn ends(until: Until, before: Lock, after: Lock) -> bool
     ensures { result ≡ not (runs_on until before after) }
 {
@@ -213,21 +199,19 @@ fn feed_all(edition: Edition, state: PackedState, bits: &[u8], until: Until) -> 
     ensures { result ≡ stretch_from edition (up_to edition until (unpacked state) bits.now) 0 no_blocks 0 (unpacked state) }
 {
     let mut lock = lock_in(state);
-    let mut window = window_in(state);
+    let mut window = Window::of(state);
     let waited = window.waiting;
-    let mut blocks = no_blocks();
-    let mut i: usize = 0;
-    while i < bits.len() {
-        let bit = bits[i];
-        if 1 < bit {
-            let why = refusal::number(Refusal::NotABit);
+    let mut blocks = Blocks::default();
+    for (i, bit) in bits.iter().enumerate() {
+        if 1 < *bit {
+            let why = u8::from(Refusal::NotABit);
             return counted(why, blocks, waited, i, kept(lock, window));
         }
-        window = join(window, bit);
+        window = window.join(*bit);
         if window.waiting == 50 {
-            let left = behind_first(window);
-            if is_passed_over(lock.mode, window) {
-                window = move_on(window, left);
+            let left = window.behind_first();
+            if window.is_passed_over(lock.mode) {
+                window = window.move_on(left);
             } else {
                 let judged = judge(edition, lock, read_by(window.bits, left as u16));
                 let one = judged.blocks;
@@ -235,42 +219,36 @@ fn feed_all(edition: Edition, state: PackedState, bits: &[u8], until: Until) -> 
                 let before = lock;
                 let next = judged.lock;
                 lock = next;
-                window = empty();
+                window = Window::empty();
                 if ends(until, before, next) {
                     return counted(0, blocks, waited, i + 1, kept(lock, window));
                 }
             }
         }
-        i += 1;
     }
-    counted(0, blocks, waited, i, kept(lock, window))
+    counted(0, blocks, waited, bits.len(), kept(lock, window))
 }
 
 // A run of the bits up to where it is to end.
+#[tactic(auto, using(std::proofs::lemmas::Bool::Decides::nat_tests), unfolding(crate::specs::Changes::stretch_of))]
 pub fn run_until(edition: Edition, state: PackedState, bits: &[u8], until: Until) -> Stretch
     ensures { result ≡ stretch_of edition until state bits.now }
 {
     let long = 65536 < bits.len();
     let improper = !is_proper(edition, state);
     if long {
-        let ran = PackedRan {
-            counts: refused(Refusal::RunTooLong),
-            state,
-        };
+        let ran = refused(Refusal::RunTooLong, state);
         return Stretch { ran, fed: 0 };
     }
     if improper {
-        let ran = PackedRan {
-            counts: refused(Refusal::Improper),
-            state,
-        };
+        let ran = refused(Refusal::Improper, state);
         return Stretch { ran, fed: 0 };
     }
     feed_all(edition, state, bits, until)
 }
 
 // A run of all the bits, by value.
-pub fn run_packed(edition: Edition, state: PackedState, bits: &[u8]) -> PackedRan
+pub fn run_packed(edition: Edition, state: PackedState, bits: &[u8]) -> Ran<PackedState>
     ensures { result ≡ run_packed edition state bits.now }
 {
     let all = run_until(edition, state, bits, Until::LastBit);
@@ -278,44 +256,40 @@ pub fn run_packed(edition: Edition, state: PackedState, bits: &[u8]) -> PackedRa
 }
 
 // One bit, by value: the run of that bit alone.
-pub fn step_packed(edition: Edition, state: PackedState, bit: u8) -> PackedRan
+#[tactic(auto, using(crate::proofs::Layouts::fed_packed_run))]
+pub fn step_packed(edition: Edition, state: PackedState, bit: u8) -> Ran<PackedState>
     ensures { result ≡ fed_packed edition state bit }
 {
     run_packed(edition, state, &[bit])
 }
 
-// ---- with the waiting bits in fifty places: packed, run and unpacked
+// ---- with the waiting bits in fifty places: packed, run and unpacked. `lw_run` and `lw_feed` take this layout, `lw_run_packed` and
+// `lw_feed_packed` the other
 
 pub fn fresh() -> State
     ensures { result ≡ fresh_of }
 {
-    unpack(fresh_packed())
+    State::from(fresh_packed())
 }
 
-pub fn run(edition: Edition, state: State, bits: &[u8]) -> Ran
+pub fn run(edition: Edition, state: State, bits: &[u8]) -> Ran<State>
     ensures { result ≡ run_of edition state bits.now }
 {
-    let places = state.bits;
-    match block::pack(&places) {
-        Packed::Number(number) => {
-            let ran = run_packed(edition, packed_with(state, number), bits);
-            let next = ran.state;
-            let counts = ran.counts;
-            let state = unpack(next);
-            Ran { counts, state }
+    let Ok(packed) = PackedState::try_from(state) else {
+        let mut why = Refusal::Improper;
+        if 65536 < bits.len() {
+            why = Refusal::RunTooLong;
         }
-        Packed::Refused(_) => {
-            let mut why = Refusal::Improper;
-            if 65536 < bits.len() {
-                why = Refusal::RunTooLong;
-            }
-            let counts = refused(why);
-            Ran { counts, state }
-        }
-    }
+        return refused(why, state);
+    };
+    let ran = run_packed(edition, packed, bits);
+    let state = State::from(ran.state);
+    let counts = ran.counts;
+    Ran { counts, state }
 }
 
-pub fn step(edition: Edition, state: State, bit: u8) -> Ran
+#[tactic(auto, using(crate::proofs::Together::fed_run))]
+pub fn step(edition: Edition, state: State, bit: u8) -> Ran<State>
     ensures { result ≡ fed_of edition state bit }
 {
     run(edition, state, &[bit])

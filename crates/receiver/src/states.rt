@@ -1,12 +1,12 @@
 // The state in both layouts, taken apart and put together.
 ghost use Rattle.std.specs.Prelude.{◌≡◌, ◌<◌, ◌≤◌, ◌-◌, ◌*◌, ◌^◌};
-ghost use Rattle.receiver.specs.Packed.{packed_of, unpacked};
+ghost use Rattle.receiver.specs.Packed.{packed_of, packing_of, unpacked};
 ghost use Rattle.receiver.specs.States.{lock_in};
-ghost use Rattle.receiver.specs.Windows.{Turned};
 
 use crate::windows::{Window, weight};
 use crate::{PackedState, State};
 use locking::Lock;
+use refusal::Refusal;
 use timekeeping::Time;
 
 pub fn lock_in(state: PackedState) -> Lock
@@ -45,7 +45,6 @@ pub fn packed_of(lock: Lock, waiting: u8, bits: u64) -> PackedState
 
 // The state in which the bits of a window wait: the first of them in place 49.
 pub fn kept(lock: Lock, window: Window) -> PackedState
-    requires { (window.waiting ≤ 50) × Turned window }
     ensures { result ≡ packed_of lock window.waiting (window.bits * 2 ^ (50 - window.waiting)) }
 {
     packed_of(
@@ -55,39 +54,45 @@ pub fn kept(lock: Lock, window: Window) -> PackedState
     )
 }
 
-// A state of fifty places, whose bits are this number.
-pub fn packed_with(state: State, bits: u64) -> PackedState
-    ensures { result ≡ packed_of (lock_in state) state.waiting bits }
-{
-    let held = state.held;
-    PackedState {
-        mode: state.mode,
-        good: state.good,
-        bad: state.bad,
-        waiting: state.waiting,
-        bits,
-        time: state.time,
-        held,
-        age: state.age,
+// The fifty places become one number, where each holds a bit.
+impl TryFrom<State> for PackedState {
+    type Error = Refusal;
+
+    ghost try_from_gives = { λ state result. result ≡ packing_of state };
+
+    fn try_from(state: State) -> Result<PackedState, Refusal> {
+        let places = state.bits;
+        let bits = block::pack(&places)?;
+        Ok(PackedState {
+            mode: state.mode,
+            good: state.good,
+            bad: state.bad,
+            waiting: state.waiting,
+            bits,
+            time: state.time,
+            held: state.held,
+            age: state.age,
+        })
     }
 }
 
 // And back.
-pub fn unpack(state: PackedState) -> State
-    requires { state.bits < 2 ^ 50 }
-    ensures { result ≡ unpacked state }
-{
-    let mut bits = [0u8; 50];
-    block::unpack(state.bits, &mut bits);
-    let held = state.held;
-    State {
-        mode: state.mode,
-        good: state.good,
-        bad: state.bad,
-        waiting: state.waiting,
-        bits,
-        time: state.time,
-        held,
-        age: state.age,
+impl From<PackedState> for State {
+    ghost from_gives = { λ packed state. state ≡ unpacked packed };
+
+    fn from(packed: PackedState) -> State {
+        let mut bits = [0u8; 50];
+        // Fifty places, and a number of fifty bits: this is never refused.
+        block::unpack(packed.bits % 0x4_0000_0000_0000, &mut bits).unwrap();
+        State {
+            mode: packed.mode,
+            good: packed.good,
+            bad: packed.bad,
+            waiting: packed.waiting,
+            bits,
+            time: packed.time,
+            held: packed.held,
+            age: packed.age,
+        }
     }
 }

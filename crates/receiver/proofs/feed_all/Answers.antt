@@ -1,21 +1,21 @@
--- `feed_all` meets its contract. The loop's invariant: what is left from here, with what is fed, counted and held, gives the whole
--- run, and the register of the window holds what its bits leave. The bits passed over are not counted: they make up the balance.
+-- `feed_all` meets its contract: a bit that waits, one that fills the window, one with which the run ends, one that is none, and the
+-- end are the cases of `Turning`.
 -- Assumes nothing.
+use borrow.Author.Rules.{rules}
 use borrow.Author.Tests.{not-true, not-false}
-use mathlib.Core.Path.{◌≡◌, refl, sym, ap, ◌∙◌, subst}
+use mathlib.Core.Path.{◌≡◌, refl, sym, ap, ◌∙◌}
 use Prim.Native.Nat.{ℕ, ◌+◌, ◌-◌, ◌*◌, ◌≤◌, ◌<◌}
 use native.Mathlib.Omega.{arith}
 use lib.ListN.{length, get_or, drop_of_length-le}
 use Rattle.block.proofs.Strings.{next, thirteen}
 use Rattle.locking.specs.declared.Blocks.{Blocks}
 use Rattle.locking.specs.declared.Judged.{Judged}
-use Rattle.locking.specs.Modes.{passed_over, judged_by}
+use Rattle.locking.specs.Modes.{no_blocks, passed_over, judged_by}
 use Rattle.locking.proofs.Choices.{counts_one}
 use Rattle.locking.proofs.StaysProper.{judged_proper}
 use Rattle.receiver.specs.declared.windows.Window.{Window}
 use Rattle.receiver.specs.Runs.{plus}
 use Rattle.receiver.specs.Changes.{runs_on}
-use Rattle.receiver.specs.Windows.{Turned}
 use Rattle.receiver.proofs.Balance.{MadeUp}
 use Rattle.receiver.proofs.First.{fifty}
 use Rattle.receiver.proofs.StaysProper.{bits_and_lock}
@@ -35,8 +35,8 @@ number w = w.bits
 passed_is : (n : ℕ) (blocks : Blocks) (passed w : ℕ) → MadeUp n blocks passed w → n - 50 * (blocks.good + blocks.bad) - w ≡ passed
 passed_is n blocks passed w made = omega arith
 
-pub window_in-window-requires : goal.window_in-window-requires
-window_in-window-requires c =
+pub of-window-requires : goal.of-window-requires
+of-window-requires c =
     let p = c.args.state in
     let proper = c.requires.0 in
     (few c.args.edition p proper, proper_small c.args.edition p proper)
@@ -44,44 +44,32 @@ window_in-window-requires c =
 pub loop-i-init : goal.loop-i-init
 loop-i-init c =
     let p = c.args.state in
-    let w = c.window_in-window.ensures in (
-      omega arith,
-      omega (arith, w.0, few c.args.edition p c.requires.0),
-      w.2,
-      rw c.lock_in-lock.ensures (bits_and_lock c.args.edition _ (proper_unpacked c.args.edition p c.requires.0).proper).1,
-      omega (arith, w.0, few c.args.edition p c.requires.0, c.requires.1),
-      (0, rw c.no_blocks-blocks.ensures (omega arith), rw c.no_blocks-blocks.ensures),
-    )
-
-pub kept-requires : goal.kept-requires
-kept-requires c = let inv = c.loop-i.invariant in (omega (arith, inv.1), inv.2)
+    let w = c.of-window.ensures in
+    let none : c.default-blocks.result ≡ no_blocks = search rules in
+    record {
+      room = omega (arith, w.0, few c.args.edition p c.requires.0);
+      proper = rw c.lock_in-lock.ensures (bits_and_lock c.args.edition _ (proper_unpacked c.args.edition p c.requires.0).proper).1;
+      limit = omega (arith, w.0, few c.args.edition p c.requires.0, c.requires.1);
+      on = (0, rw none (omega arith), rw none);
+    }
 
 pub counted-requires : goal.counted-requires
 counted-requires c =
     let inv = c.loop-i.invariant in
-    (rw c.kept.ensures (omega (arith, inv.5.1)), omega (arith, inv.0, inv.4))
+    (rw c.kept.ensures (omega (arith, inv.on.1)), omega (arith, inv.limit))
 
 pub returns-then-bit-gt1 : goal.returns-then-bit-gt1
 returns-then-bit-gt1 c =
     let bits = c.args.bits.now in
     let until = c.args.until in
-    let w = c.window_in-window.ensures in
-    let whole = rw (next bits c.loop-i.i c.loop-i-test.true) at c.loop-i.invariant.5.2 in
+    let w = c.of-window.ensures in
+    let whole = rw (next bits c.loop-i.i c.loop-i-test.true) at c.loop-i.invariant.on.2 in
     let no-bit : 2 ≤ get_or bits c.loop-i.i 0 = omega (arith, c.if-bit-gt1.true) in
-    rw (c.counted.ensures, c.kept.ensures, passed_is _ c.loop-i.blocks _ _ c.loop-i.invariant.5.1, c.number-why.ensures, put_back c.loop-i.lock _ _ c.loop-i.invariant.2.0)
+    rw (c.counted.ensures, c.kept.ensures, passed_is _ c.loop-i.blocks _ _ c.loop-i.invariant.on.1, c.from-why.ensures, put_back c.loop-i.lock _ _ c.loop-i.window.few)
     (sym (on_stops _ until c.loop-i.i _ _ _ _ _ no-bit) ∙ whole ∙ entered c.args.edition c.args.state c.requires.0 c.lock_in-lock.ensures w.0 w.1 until bits)
 
 pub join-window-requires : goal.join-window-requires
-join-window-requires c = let inv = c.loop-i.invariant in (inv.1, omega (arith, c.if-bit-gt1.false), inv.2)
-
-pub behind_first-left-requires : goal.behind_first-left-requires
-behind_first-left-requires c = (c.if-window-eq50.true, c.join-window.ensures.2)
-
-pub is_passed_over-requires : goal.is_passed_over-requires
-is_passed_over-requires c = (c.if-window-eq50.true, c.join-window.ensures.2)
-
-pub move_on-window-requires : goal.move_on-window-requires
-move_on-window-requires c = c.behind_first-left.ensures
+join-window-requires c = let inv = c.loop-i.invariant in (inv.room, omega (arith, c.if-bit-gt1.false))
 
 pub overflow_cast-left : goal.overflow_cast-left
 overflow_cast-left c = omega (arith, thirteen 49 _ c.behind_first-left.ensures)
@@ -90,41 +78,34 @@ pub more-blocks-requires : goal.more-blocks-requires
 more-blocks-requires c =
     let inv = c.loop-i.invariant in
     let one = counts_one _ _ _ c.judge-judged.ensures in
-    (omega (arith, one, inv.0, inv.4, inv.5.1), omega (arith, one, inv.0, inv.4, inv.5.1))
-
-pub overflow_add-i : goal.overflow_add-i
-overflow_add-i c =
-    omega (arith, c.loop-i.invariant.0, c.requires.1)
-
-pub kept-requires-then-ends : goal.kept-requires-then-ends
-kept-requires-then-ends c = let e = c.empty-window.ensures in (omega (arith, e.0), e.2)
+    (omega (arith, one, inv.limit, inv.on.1), omega (arith, one, inv.limit, inv.on.1))
 
 pub counted-requires-then-ends : goal.counted-requires-then-ends
 counted-requires-then-ends c =
     let inv = c.loop-i.invariant in (
-      rw (c.kept-then-ends.ensures, c.more-blocks.ensures) (omega (arith, c.empty-window.ensures.0, counts_one _ _ _ c.judge-judged.ensures, inv.5.1, c.join-window.ensures.0, c.if-window-eq50.true)),
-      omega (arith, c.loop-i-test.true, inv.4),
+      rw (c.kept-then-ends.ensures, c.more-blocks.ensures) (omega (arith, c.empty-window.ensures.0, counts_one _ _ _ c.judge-judged.ensures, inv.on.1, c.join-window.ensures.0, c.if-window-eq50.true)),
+      omega (arith, c.loop-i-test.true, inv.limit),
     )
 
 pub returns-then-ends : goal.returns-then-ends
 returns-then-ends c =
     let bits = c.args.bits.now in
     let until = c.args.until in
-    let window = c.window_in-window.ensures in
+    let window = c.of-window.ensures in
     let l = c.loop-i.lock in
     let v = c.join-window.result in
     let grown = c.join-window.ensures in
-    let f = fifty v c.if-window-eq50.true grown.2 in
+    let f = fifty v c.if-window-eq50.true in
     let b : get_or bits c.loop-i.i 0 < 2 = omega (arith, c.if-bit-gt1.false) in
     let j = c.judge-judged.result in
     let e = c.judge-judged.ensures ∙ ap (judged_by c.args.edition l) (c.read_by.ensures ∙ reads v.bits _ f.0 c.behind_first-left.ensures) in
     let none = ap (λ (j : Judged). j.passed) e ∙ not_over _ l _ _ c.is_passed_over.ensures c.if-is_passed_over.false in
-    let whole = rw (next bits c.loop-i.i c.loop-i-test.true) at c.loop-i.invariant.5.2 in
+    let whole = rw (next bits c.loop-i.i c.loop-i-test.true) at c.loop-i.invariant.on.2 in
     let change = not-true (runs_on until l j.lock) (sym c.ends.ensures ∙ c.if-ends.true) in
     let nothing = c.empty-window.ensures in
-    let made : MadeUp (c.window_in-window.result.waiting + (c.loop-i.i + 1)) (plus c.loop-i.blocks j.blocks) c.loop-i.invariant.5.0 c.empty-window.result.waiting =
-    omega (arith, c.loop-i.invariant.5.1, grown.0, c.if-window-eq50.true, counts_one _ _ _ c.judge-judged.ensures, none, nothing.0) in
-    rw (c.counted-then-ends.ensures, c.kept-then-ends.ensures, c.more-blocks.ensures, passed_is _ (plus c.loop-i.blocks j.blocks) _ _ made, put_back j.lock _ _ nothing.2.0, nothing.0, nothing.1)
+    let made : MadeUp (c.of-window.result.waiting + (c.loop-i.i + 1)) (plus c.loop-i.blocks j.blocks) c.loop-i.invariant.on.0 c.empty-window.result.waiting =
+    omega (arith, c.loop-i.invariant.on.1, grown.0, c.if-window-eq50.true, counts_one _ _ _ c.judge-judged.ensures, none, nothing.0) in
+    rw (c.counted-then-ends.ensures, c.kept-then-ends.ensures, c.more-blocks.ensures, passed_is _ (plus c.loop-i.blocks j.blocks) _ _ made, put_back j.lock _ _ c.empty-window.result.few, nothing.0, nothing.1)
     (sym (ends_here _ until c.loop-i.i _ _ _ _ b l _ _ v.bits grown.1 (sym grown.0 ∙ c.if-window-eq50.true) j e none change)
     ∙ whole ∙ entered c.args.edition c.args.state c.requires.0 c.lock_in-lock.ensures window.0 window.1 until bits)
 
@@ -138,72 +119,65 @@ loop-i-preserved c =
     let grown = c.join-window.ensures in
     let b : get_or bits c.loop-i.i 0 < 2 = omega (arith, c.if-bit-gt1.false) in
     let test = c.loop-i-test.true in
-    let here : c.loop-i.i + 1 ≤ length bits = omega (arith, test) in
-    let whole = rw (next bits c.loop-i.i test) at inv.5.2 in
+    let whole = rw (next bits c.loop-i.i test) at inv.on.2 in
     elim c.if-window-eq50.branch [
       | then-window-eq50+then-is_passed_over o ↦
-          let moved = o.move_on-window.ensures in (
-            here,
-            omega (arith, ap waiting o.window-is, moved.0),
-            subst Turned (sym o.window-is) moved.2,
-            rw o.lock-is inv.3,
-            inv.4,
-            (
-              inv.5.0 + 1,
-              rw o.blocks-is (omega (arith, inv.5.1, ap waiting o.window-is, moved.0, grown.0, o.if-window-eq50.true)),
+          let moved = o.move_on-window.ensures in
+          record {
+            room = omega (arith, ap waiting o.window-is, moved.0);
+            proper = rw o.lock-is inv.proper;
+            limit = inv.limit;
+            on = (
+              inv.on.0 + 1,
+              rw o.blocks-is (omega (arith, inv.on.1, ap waiting o.window-is, moved.0, grown.0, o.if-window-eq50.true)),
               goes_same _ until _ _ _ o.lock-is (ap waiting o.window-is ∙ moved.0) (ap number o.window-is ∙ moved.1) o.blocks-is
-                  ∙ sym (goes_over _ until c.loop-i.i _ _ _ _ b l _ _ v.bits grown.1 (sym grown.0 ∙ o.if-window-eq50.true) (passed_over l) (is_over _ l _ _ o.is_passed_over.ensures inv.3 o.if-is_passed_over.true) refl) ∙ whole,
-            ),
-          )
+                  ∙ sym (goes_over _ until c.loop-i.i _ _ _ _ b l _ _ v.bits grown.1 (sym grown.0 ∙ o.if-window-eq50.true) (passed_over l) (is_over _ l _ _ o.is_passed_over.ensures inv.proper o.if-is_passed_over.true) refl) ∙ whole,
+            );
+          }
       | then-window-eq50+else-is_passed_over+else-ends u ↦
           let full = u.if-window-eq50.true in
-          let f = fifty v full grown.2 in
+          let f = fifty v full in
           let j = u.judge-judged.result in
           let e = u.judge-judged.ensures ∙ ap (judged_by c.args.edition l) (u.read_by.ensures ∙ reads v.bits _ f.0 u.behind_first-left.ensures) in
           let none = ap (λ (j : Judged). j.passed) e ∙ not_over _ l _ _ u.is_passed_over.ensures u.if-is_passed_over.false in
           let on = not-false (runs_on until l j.lock) (sym u.ends.ensures ∙ u.if-ends.false) in
           let nothing = u.empty-window.ensures in
-          let added = u.blocks-is ∙ u.more-blocks.ensures in (
-            here,
-            omega (arith, ap waiting u.window-is, nothing.0),
-            subst Turned (sym u.window-is) nothing.2,
-            rw (u.lock-is, e) (judged_proper _ l _ inv.3),
-            inv.4,
-            (
-              inv.5.0,
-              rw added (omega (arith, inv.5.1, ap waiting u.window-is, nothing.0, grown.0, full, counts_one _ _ _ u.judge-judged.ensures, none)),
+          let added = u.blocks-is ∙ u.more-blocks.ensures in
+          record {
+            room = omega (arith, ap waiting u.window-is, nothing.0);
+            proper = rw (u.lock-is, e) (judged_proper _ l _ inv.proper);
+            limit = inv.limit;
+            on = (
+              inv.on.0,
+              rw added (omega (arith, inv.on.1, ap waiting u.window-is, nothing.0, grown.0, full, counts_one _ _ _ u.judge-judged.ensures, none)),
               goes_same _ until _ _ _ u.lock-is (ap waiting u.window-is ∙ nothing.0) (ap number u.window-is ∙ nothing.1) added
                   ∙ sym (goes_on _ until c.loop-i.i _ _ _ _ b l _ _ v.bits grown.1 (sym grown.0 ∙ full) j e none on) ∙ whole,
-            ),
-          )
-      | else-window-eq50 k ↦ (
-        here,
-        omega (arith, ap waiting k.window-is, grown.0, k.if-window-eq50.false, inv.1),
-        subst Turned (sym k.window-is) grown.2,
-        rw k.lock-is inv.3,
-        inv.4,
-        (
-          inv.5.0,
-          rw k.blocks-is (omega (arith, inv.5.1, ap waiting k.window-is, grown.0)),
+            );
+          }
+      | else-window-eq50 k ↦ record {
+        room = omega (arith, ap waiting k.window-is, grown.0, k.if-window-eq50.false, inv.room);
+        proper = rw k.lock-is inv.proper;
+        limit = inv.limit;
+        on = (
+          inv.on.0,
+          rw k.blocks-is (omega (arith, inv.on.1, ap waiting k.window-is, grown.0)),
           goes_same _ until _ _ _ k.lock-is (ap waiting k.window-is ∙ grown.0) (ap number k.window-is) k.blocks-is
-              ∙ sym (more_wait _ until c.loop-i.i _ _ _ _ b l _ _ v.bits grown.1 (omega (arith, grown.0, k.if-window-eq50.false, inv.1))) ∙ whole,
-        ),
-      )
+              ∙ sym (more_wait _ until c.loop-i.i _ _ _ _ b l _ _ v.bits grown.1 (omega (arith, grown.0, k.if-window-eq50.false, inv.room))) ∙ whole,
+        );
+      }
     ]
-
-pub kept-requires-2 : goal.kept-requires-2
-kept-requires-2 c = let inv = c.loop-i.invariant in (omega (arith, inv.1), inv.2)
 
 pub counted-requires-2 : goal.counted-requires-2
 counted-requires-2 c =
     let inv = c.loop-i.invariant in
-    (rw c.kept-2.ensures (omega (arith, inv.5.1)), omega (arith, inv.0, inv.4))
+    (rw c.kept-2.ensures (omega (arith, inv.on.1)), omega (arith, inv.limit))
 
 pub returns : goal.returns
 returns c =
     let bits = c.args.bits.now in
     let until = c.args.until in
-    let window = c.window_in-window.ensures in
-    let whole = rw (drop_of_length-le bits c.loop-i-test.false) at c.loop-i.invariant.5.2 in
-    rw (c.counted-2.ensures, c.kept-2.ensures, passed_is _ c.loop-i.blocks _ _ c.loop-i.invariant.5.1, put_back c.loop-i.lock _ _ c.loop-i.invariant.2.0)
+    let window = c.of-window.ensures in
+    let end : length bits ≡ c.loop-i.i = omega arith in
+    let whole = rw (drop_of_length-le bits c.loop-i-test.false) at c.loop-i.invariant.on.2 in
+    rw (c.counted-2.ensures, c.kept-2.ensures, end, passed_is _ c.loop-i.blocks _ _ c.loop-i.invariant.on.1, put_back c.loop-i.lock _ _ c.loop-i.window.few)
     (sym (on_done _ until c.loop-i.i _ _ _) ∙ whole ∙ entered c.args.edition c.args.state c.requires.0 c.lock_in-lock.ensures window.0 window.1 until bits)

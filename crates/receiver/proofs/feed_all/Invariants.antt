@@ -1,9 +1,9 @@
 -- `feed_all` meets its contract. The loop's invariant: what is left from here, with what is fed, counted and held, gives the whole
--- run, and the register of the window holds what its bits leave. The bits passed over are not counted: they make up the balance.
+-- run. The bits passed over are not counted: they make up the balance.
 -- Assumes nothing.
 use mathlib.Core.Bool.{true}
 use mathlib.Core.Path.{◌≡◌}
-use Prim.Native.Nat.{ℕ, ◌+◌, ◌-◌, ◌≤◌, ◌<◌}
+use Prim.Native.Nat.{ℕ, ◌+◌, ◌≤◌, ◌<◌}
 use lib.ListN.{length, drop}
 use Rattle.locking.specs.declared.Lock.{Lock}
 use Rattle.locking.specs.Locks.{lock_proper}
@@ -11,7 +11,6 @@ use Rattle.locking.specs.Modes.{no_blocks}
 use Rattle.receiver.specs.declared.State.{State}
 use Rattle.receiver.specs.declared.windows.Window.{Window}
 use Rattle.receiver.specs.States.{state_of}
-use Rattle.receiver.specs.Windows.{Turned}
 use Rattle.receiver.proofs.Balance.{MadeUp}
 use Rattle.receiver.proofs.Numbers.{places_of}
 use Rattle.receiver.proofs.Running.{going_on}
@@ -23,9 +22,11 @@ held l w = state_of l w.waiting (places_of w.waiting w.bits)
 
 abbrev pub invariant-loop-i : goal.invariant-loop-i
 invariant-loop-i l =
-    (l.i ≤ length l.bits) × (l.window.waiting < 50) × Turned l.window × (lock_proper l.edition l.lock ≡ true) × (l.waited + length l.bits ≤ 65585)
-    × ((passed : ℕ) × MadeUp (l.waited + l.i) l.blocks passed l.window.waiting
-    × (going_on l.edition l.until (drop l.i l.bits) l.i l.blocks passed (held l.lock l.window) ≡ going_on l.edition l.until l.bits 0 no_blocks 0 (held l.initial.lock l.initial.window)))
-
-abbrev pub decreases-loop-i : goal.decreases-loop-i
-decreases-loop-i l = length l.bits - l.i
+    record {
+      room : l.window.waiting < 50;
+      proper : lock_proper l.edition l.lock ≡ true;
+      limit : l.waited + length l.bits ≤ 65585;
+      on :
+          (passed : ℕ) × MadeUp (l.waited + l.i) l.blocks passed l.window.waiting
+          × (going_on l.edition l.until (drop l.i l.bits) l.i l.blocks passed (held l.lock l.window) ≡ going_on l.edition l.until l.bits 0 no_blocks 0 (held l.initial.lock l.initial.window));
+    }

