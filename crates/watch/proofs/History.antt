@@ -13,6 +13,7 @@ use lib.ListN.{length}
 use lib.Seq.{append_snoc, take_at}
 use Rattle.block.specs.Bits.{Bits}
 use Rattle.block.proofs.Strings.{not_true}
+use Rattle.std.specs.Prelude.{Ok}
 use Rattle.record.specs.declared.Edition.{Edition}
 use Rattle.timekeeping.specs.Times.{none, candidate, confirmed}
 use Rattle.timekeeping.specs.Proper.{time_proper}
@@ -161,12 +162,12 @@ module _ (edition : Edition) where
   unfolding bits_watched
   watched_bits fed bs = cond_elim Bits (ltb 65536 (length bs)) (λ _. tt) (λ _. cond_elim Bits (leb (2 ^ 64) (fed + length bs)) (λ _. tt) (λ _. before_bits bs))
 
-  run_watched : (w : Watch) (bs : List ℕ) → watch_proper edition w ≡ true → (watched_of edition w bs).watch ≡ watch_after edition w (bits_watched w.fed bs)
+  run_watched : (w : Watch) (bs : List ℕ) → watch_proper edition w ≡ true → (watched_of edition w bs).state ≡ watch_after edition w (bits_watched w.fed bs)
   unfolding watched_of bits_watched watch_after
   run_watched w bs e = by (ltb 65536 (length bs)) refl (leb (2 ^ 64) (w.fed + length bs)) refl
     where
       by : (long : Bool) → ltb 65536 (length bs) ≡ long → (past : Bool) → leb (2 ^ 64) (w.fed + length bs) ≡ past
-          → (watched_of edition w bs).watch ≡ watch_after edition w (bits_watched w.fed bs)
+          → (watched_of edition w bs).state ≡ watch_after edition w (bits_watched w.fed bs)
       by true k past f = rw k
       by false k true f = rw (k, f)
       by false k false f = rw (k, f, e)
@@ -176,7 +177,7 @@ module _ (edition : Edition) where
   all_runs l w [] m = m
   all_runs l w (bs ∷ runs) m =
       let same = run_watched w bs m.proper ∙ ap (λ (n : ℕ). watch_after edition w (bits_watched n bs)) m.fed in
-      all_runs (l ++ bits_watched (length l) bs) (watched_of edition w bs).watch runs
+      all_runs (l ++ bits_watched (length l) bs) (watched_of edition w bs).state runs
       (rw same (remembers_on l w (bits_watched (length l) bs) (watched_bits (length l) bs) m))
 
   -- a proper watch holds one of the three kinds of time
@@ -190,13 +191,12 @@ module _ (edition : Edition) where
       (λ _ p. leb-true t.kind confirmed ((and-eq-true_iff (leb t.kind confirmed) _).0 p).0))
 
   -- so its answer is the history's
-  shown : (l : List ℕ) (w : Watch) → Remembers edition l w → why_of edition w ≡ standing_after edition l
+  shown : (l : List ℕ) (w : Watch) → Remembers edition l w → why_of edition w ≡ Ok (standing_after edition l)
   unfolding why_of
   shown l w m =
-      rw (m.proper, ← m.state, ← m.dropped, ← m.lost)
-      (standing_same w.state.mode w.state.time w.lost w.dropped _ _ (kind_small w m.proper) m.displaced)
+      rw (m.proper, ← m.state, ← m.dropped, ← m.lost, standing_same w.state.mode w.state.time w.lost w.dropped _ _ (kind_small w m.proper) m.displaced)
 
-  pub bits_shown : (l : List ℕ) → Bits l → why_of edition (watch_after edition fresh_watch l) ≡ standing_after edition l
+  pub bits_shown : (l : List ℕ) → Bits l → why_of edition (watch_after edition fresh_watch l) ≡ Ok (standing_after edition l)
   bits_shown l h = shown l (watch_after edition fresh_watch l) (remembers_on [] fresh_watch l h fresh_remembers)
 
 pub shows_history : ShowsHistory

@@ -1,5 +1,10 @@
 -- How long ago the block of the held record ended: with each bit one more, unless a block makes a new record with it.
 -- Assumes nothing.
+use Rattle.refusal.specs.declared.Refusal.{Refusal}
+use Rattle.record.specs.declared.Record.{Record}
+use Rattle.block.specs.declared.Refused.{Refused}
+use Rattle.block.specs.declared.Body.{Body}
+use Rattle.std.specs.Prelude.{Result, Ok, Err}
 use Prim.Native.Nat.{ℕ, ◌+◌, ◌≤◌, ◌<◌}
 use native.Mathlib.Omega.{arith}
 use mathlib.Core.Path.{◌≡◌, refl, ◌∙◌}
@@ -10,11 +15,8 @@ use lib.Dec.{eqb, leb}
 use lib.ListN.{length}
 use Rattle.block.specs.Bits.{zeros}
 use Rattle.block.specs.Read.{read_of}
-use Rattle.block.specs.declared.Read.{Read}
 use Rattle.block.proofs.Strings.{not_true}
 use Rattle.record.specs.declared.Edition.{Edition}
-use Rattle.record.specs.declared.Recorded.{Recorded}
-use Rattle.record.specs.declared.Recorded.TheVariants.{Given, Refused}
 use Rattle.timekeeping.specs.declared.Time.{Time}
 use Rattle.timekeeping.specs.Times.{none, usable_in, renewed_by, aged_by, offered_to}
 use Rattle.timekeeping.proofs.Choices.{cond_elim}
@@ -34,10 +36,10 @@ use Rattle.watch.specs.Watches.{is_held, since}
 abbrev Offered : Time → Time → Type 0
 Offered before after = is_held after.kind ≡ true → (after.age ≡ 0) ⊎ ((after.age ≡ before.age + 1) × (after.kind ≡ before.kind))
 
-offered_held : (edition : Edition) (t : Time) (r : Recorded) → Offered t (offered_to edition t r)
+offered_held : (edition : Edition) (t : Time) (r : Result Record Refusal) → Offered t (offered_to edition t r)
 unfolding offered_to renewed_by aged_by
-offered_held edition t (Given r) = λ _. inl refl
-offered_held edition t (Refused why) =
+offered_held edition t (Ok r) = λ _. inl refl
+offered_held edition t (Err why) =
     cond_elim (Offered t) (eqb t.kind none) (λ _ h. absurd (not_true h)) (λ _. cond_elim (Offered t) (leb 120 (t.age + 1)) (λ _ h. absurd (not_true h)) (λ _ _. inr (refl, refl)))
 
 -- so it is with one bit
@@ -46,7 +48,7 @@ Older s t = is_held t.time ≡ true → (since (packed t) ≡ 0) ⊎ ((since (pa
 
 module _ (edition : Edition) where
   -- the block that the bit fills is offered, and nothing waits behind it
-  offered_next : (s : State) (bad : ℕ) (bits : List ℕ) (r : Recorded) → s.waiting + 1 ≡ 50 → Older s (state_of (lock_of locked 0 bad (offered_to edition (lock_in s).time r)) 0 bits)
+  offered_next : (s : State) (bad : ℕ) (bits : List ℕ) (r : Result Record Refusal) → s.waiting + 1 ≡ 50 → Older s (state_of (lock_of locked 0 bad (offered_to edition (lock_in s).time r)) 0 bits)
   offered_next s bad bits r full h =
       ⊎_elim (λ z. inl (omega arith)) (λ o. inr (omega (arith, o.0), o.1)) (offered_held edition (lock_in s).time r h)
 
@@ -54,7 +56,7 @@ module _ (edition : Edition) where
   step_held s b room =
       step_elim edition (λ (t : Step). Older s t.next) s b (λ _ _. inr (omega arith, refl))
       (λ full.
-      let w : Read = read_of (filled s b) in
+      let w : Result Body Refused = read_of (filled s b) in
       let P : Judged → Type 0 = λ j. Older s (judges (filled s b) j).next in
       let last : s.waiting + 1 ≡ 50 = omega arith in
       modes_elim edition P (lock_in s) w (λ j e h. absurd (not_true (rw e at h))) (λ _ _ h. absurd (not_true h)) (λ _ _ h. absurd (not_true h)) (λ _ _ _ h. absurd (not_true h))

@@ -1,6 +1,6 @@
 -- How the time stands, by the whole history of the bits fed since the fresh watch (02, No. 11). Nothing here knows what a watch remembers.
 -- Assumes nothing.
-use Rattle.std.specs.Prelude.{ℕ, zero, suc, ◌+◌, ◌-◌, ◌≤◌, ◌<◌, ◌^◌, Bool, true, false, cond, ◌&&◌, List, [], ◌∷◌, ◌++◌, ◌≡◌, eqb, leb, ltb, length}
+use Rattle.std.specs.Prelude.{ℕ, zero, suc, ◌+◌, ◌-◌, ◌≤◌, ◌<◌, ◌^◌, Bool, true, false, cond, ◌&&◌, List, [], ◌∷◌, ◌++◌, ◌≡◌, eqb, leb, ltb, length, Ok}
 use Rattle.record.specs.declared.Edition.{Edition}
 use Rattle.locking.specs.Locks.{locked}
 use Rattle.receiver.specs.declared.State.{State}
@@ -61,7 +61,7 @@ bits_watched fed bs = cond (ltb 65536 (length bs)) [] (cond (leb (2 ^ 64) (fed +
 -- runs one after the other, whatever each is refused with: the watch after them, and the history that they fed
 unfoldable pub watched_all : Edition → Watch → List (List ℕ) → Watch
 watched_all edition w [] = w
-watched_all edition w (bs ∷ runs) = watched_all edition (watched_of edition w bs).watch runs
+watched_all edition w (bs ∷ runs) = watched_all edition (watched_of edition w bs).state runs
 
 unfoldable pub history_of : List ℕ → List (List ℕ) → List ℕ
 history_of history [] = history
@@ -70,7 +70,7 @@ history_of history (bs ∷ runs) = history_of (history ++ bits_watched (length h
 -- after any runs into a fresh watch, refused ones among them, why is the standing of the bits that they fed
 abbrev pub ShowsHistory : Type 0
 ShowsHistory =
-    (edition : Edition) (runs : List (List ℕ)) → why_of edition (watched_all edition fresh_watch runs) ≡ standing_after edition (history_of [] runs)
+    (edition : Edition) (runs : List (List ℕ)) → why_of edition (watched_all edition fresh_watch runs) ≡ Ok (standing_after edition (history_of [] runs))
 
 -- and its receiver is in the state after them
 abbrev pub ShowsState : Type 0

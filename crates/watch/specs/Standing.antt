@@ -1,12 +1,13 @@
 -- How the time stands: the seven answers to why a dial is blank (02, No. 11).
 -- Assumes nothing.
-use Rattle.std.specs.Prelude.{ℕ, cond, eqb}
+use Rattle.std.specs.Prelude.{ℕ, cond, eqb, Result, Ok, Err}
+use Rattle.refusal.specs.declared.Refusal.{Refusal}
 use Rattle.refusal.specs.declared.Refusal.TheVariants.{Improper}
 use Rattle.record.specs.declared.Edition.{Edition}
 use Rattle.timekeeping.specs.Times.{none, confirmed}
 use Rattle.locking.specs.Locks.{locked}
 use Rattle.watch.specs.declared.Standing.{Standing}
-use Rattle.watch.specs.declared.Standing.TheVariants.{Confirmed, LockLost, NeverLocked, BlockMissing, NoUsableBlock, NotNextMinute, TooYoung, Refused}
+use Rattle.watch.specs.declared.Standing.TheVariants.{Confirmed, LockLost, NeverLocked, BlockMissing, NoUsableBlock, NotNextMinute, TooYoung}
 use Rattle.watch.specs.declared.Watch.{Watch}
 use Rattle.watch.specs.Watches.{watch_proper}
 
@@ -28,5 +29,5 @@ abbrev pub standing_of : Watch → Standing
 standing_of w = standing_with w.state.mode w.state.time w.lost w.dropped w.displaced
 
 -- a watch that is not proper gets 10
-unfoldable pub why_of : Edition → Watch → Standing
-why_of edition w = cond (watch_proper edition w) (standing_of w) (Refused Improper)
+unfoldable pub why_of : Edition → Watch → Result Standing Refusal
+why_of edition w = cond (watch_proper edition w) (Ok (standing_of w)) (Err Improper)

@@ -2,20 +2,18 @@
 -- Assumes nothing.
 use Rattle.std.specs.Prelude.{ℕ, ◌+◌, ◌-◌, ◌*◌, ◌^◌, Bool, cond, not, ◌&&◌, ◌||◌, List, [], ◌∷◌, eqb, leb, ltb, length}
 use Rattle.refusal.specs.Numbers.{number_of}
-use Rattle.refusal.specs.declared.Refusal.{Refusal}
 use Rattle.refusal.specs.declared.Refusal.TheVariants.{RunTooLong, Improper}
 use Rattle.record.specs.declared.Edition.{Edition}
 use Rattle.timekeeping.specs.Times.{none, candidate}
 use Rattle.locking.specs.Locks.{locked}
-use Rattle.locking.specs.Modes.{no_blocks}
 use Rattle.receiver.specs.declared.Counts.{Counts}
 use Rattle.receiver.specs.declared.PackedState.{PackedState}
+use Rattle.receiver.specs.declared.Ran.{Ran}
 use Rattle.receiver.specs.Steps.{step_of}
-use Rattle.receiver.specs.Runs.{plus, counts_of, blocks_in}
+use Rattle.receiver.specs.Runs.{plus, counts_of, blocks_in, refused_run}
 use Rattle.receiver.specs.History.{bits_before}
 use Rattle.receiver.specs.Packed.{packed, unpacked, fresh_packed, packed_proper, run_packed}
 use Rattle.watch.specs.declared.Watch.{Watch}
-use Rattle.watch.specs.declared.Watched.{Watched}
 
 -- the receiver's state, the bits fed, and the bits of the last loss of lock, the last drop since the present lock, and the block that
 -- made the held candidate where it displaced a held record
@@ -97,15 +95,12 @@ abbrev pub joined : Counts → Counts → Counts
 joined before after = counts_of after.refusal (plus (blocks_in before) (blocks_in after)) (before.passed + after.passed) after.waiting
 
 -- it counts as a run into the receiver, and the bits before the first that is none are watched
-abbrev pub watched_from : Edition → Watch → List ℕ → Watched
-watched_from edition w bs = record { counts = (run_packed edition w.state bs).counts; watch = watch_after edition w (bits_before bs) }
-
-abbrev pub refused_watch : Refusal → Watch → Watched
-refused_watch why w = record { counts = counts_of (number_of why) no_blocks 0 0; watch = w }
+abbrev pub watched_from : Edition → Watch → List ℕ → Ran Watch
+watched_from edition w bs = record { counts = (run_packed edition w.state bs).counts; state = watch_after edition w (bits_before bs) }
 
 -- more than 65,536 bits get 9, and so do bits that would take those fed past 2^64 - 1; then a watch that is not proper gets 10
-unfoldable pub watched_of : Edition → Watch → List ℕ → Watched
+unfoldable pub watched_of : Edition → Watch → List ℕ → Ran Watch
 watched_of edition w bs =
-    cond (ltb 65536 (length bs)) (refused_watch RunTooLong w)
-    (cond (leb (2 ^ 64) (w.fed + length bs)) (refused_watch RunTooLong w)
-    (cond (watch_proper edition w) (watched_from edition w bs) (refused_watch Improper w)))
+    cond (ltb 65536 (length bs)) (refused_run (number_of RunTooLong) w)
+    (cond (leb (2 ^ 64) (w.fed + length bs)) (refused_run (number_of RunTooLong) w)
+    (cond (watch_proper edition w) (watched_from edition w bs) (refused_run (number_of Improper) w)))
