@@ -1,13 +1,8 @@
 -- `add_up` meets its contract. The loop's invariant: what is left of the good ones lacks as much of all codes as the codes still to come.
 -- Assumes nothing.
-use mathlib.Core.Path.{◌≡◌}
-use Prim.Native.Nat.{◌+◌, ◌-◌, ◌≤◌}
-use lib.ListN.{drop}
+use Rattle.std.proofs.Common.{◌≡◌, ◌+◌, drop}
 use Rattle.reception.specs.Reports.{total}
 use Rattle.reception.proofs.add_up.Given as goal
 
 abbrev pub invariant-loop-code : goal.invariant-loop-code
-invariant-loop-code l = (total l.codes + l.left ≡ l.good + total (drop l.code l.codes)) × (l.code ≤ 16)
-
-abbrev pub decreases-loop-code : goal.decreases-loop-code
-decreases-loop-code l = 16 - l.code
+invariant-loop-code l = total l.codes + l.left ≡ l.good + total (drop l.code-index l.codes)
