@@ -1,15 +1,12 @@
 -- The two layouts of a block and of a receiver's state: every call on the number gives the answer of the call on fifty bytes
 -- (02, No. 6). The definitions tied here are those that the contracts of the calls cite.
 -- Assumes nothing.
-use Rattle.std.specs.Prelude.{true, List, ◌≡◌, ℕ, ◌^◌, ◌<◌, length}
+use Rattle.std.specs.Prelude.{true, List, ◌≡◌, ℕ, ◌^◌, ◌<◌, length, Ok, Err}
 use Rattle.refusal.specs.declared.Refusal.{Refusal}
-use Rattle.block.specs.Read.{read_of}
+use Rattle.block.specs.Read.{refused, read_of}
 use Rattle.block.specs.Write.{write_of, written_of}
 use Rattle.block.specs.Choose.{choice_of}
 use Rattle.block.specs.Packed.{read_packed, write_packed, choose_packed, pack_of, unpacked_of}
-use Rattle.block.specs.declared.Packed.TheVariants as packing
-use Rattle.block.specs.declared.Read.TheVariants as reading
-use Rattle.block.specs.declared.Written.TheVariants as writing
 use Rattle.record.specs.declared.Edition.{Edition}
 use Rattle.receiver.specs.declared.PackedState.{PackedState}
 use Rattle.receiver.specs.declared.State.{State}
@@ -19,17 +16,17 @@ use Rattle.receiver.specs.Packed.{packed, unpacked, fresh_packed, packed_proper,
 
 pub record Layouts : Type 0 where
   -- ---- the block. What packs is fifty bits, and unpacking gives them back; what does not is refused as reading refuses it
-  pub packs : (s held : List ℕ) (n : ℕ) → length held ≡ 50 → pack_of s ≡ packing.Number n → (n < 2 ^ 50) × (unpacked_of held n ≡ s)
-  pub unpacks : (held : List ℕ) (n : ℕ) → length held ≡ 50 → n < 2 ^ 50 → pack_of (unpacked_of held n) ≡ packing.Number n
-  pub refuses : (s : List ℕ) (why : Refusal) → pack_of s ≡ packing.Refused why → read_of s ≡ reading.Refused why 0
+  pub packs : (s held : List ℕ) (n : ℕ) → length held ≡ 50 → pack_of s ≡ Ok n → (n < 2 ^ 50) × (unpacked_of held n ≡ s)
+  pub unpacks : (held : List ℕ) (n : ℕ) → length held ≡ 50 → n < 2 ^ 50 → pack_of (unpacked_of held n) ≡ Ok n
+  pub refuses : (s : List ℕ) (why : Refusal) → pack_of s ≡ Err why → read_of s ≡ refused why 0
   -- reading the number of a slice is reading the slice; an answer has the remainder that it tells in it
-  pub read : (s : List ℕ) (n : ℕ) → pack_of s ≡ packing.Number n → read_packed n ≡ read_of s
+  pub read : (s : List ℕ) (n : ℕ) → pack_of s ≡ Ok n → read_packed n ≡ read_of s
   -- writing the number is writing fifty places and packing them, or it is refused alike
-  pub write : (held : List ℕ) (code word : ℕ) → length held ≡ 50 → write_of 50 code ≡ writing.Whole
+  pub write : (held : List ℕ) (code word : ℕ) → length held ≡ 50 → write_of 50 code ≡ Ok tt
       → write_packed code word ≡ pack_of (written_of held code word)
-  pub writes_not : (code word : ℕ) (why : Refusal) → write_of 50 code ≡ writing.Refused why → write_packed code word ≡ packing.Refused why
+  pub writes_not : (code word : ℕ) (why : Refusal) → write_of 50 code ≡ Err why → write_packed code word ≡ Err why
   -- choosing between the numbers of two slices is choosing between the slices
-  pub choose : (s t : List ℕ) (n m : ℕ) → pack_of s ≡ packing.Number n → pack_of t ≡ packing.Number m → choose_packed n m ≡ choice_of s t
+  pub choose : (s t : List ℕ) (n m : ℕ) → pack_of s ≡ Ok n → pack_of t ≡ Ok m → choose_packed n m ≡ choice_of s t
   -- ---- the state. Packing a proper state loses nothing, nor does unpacking one without a bit above place 49
   pub there : (edition : Edition) (s : State) → length s.bits ≡ 50 → proper_of edition s ≡ true → (packed_proper edition (packed s) ≡ true) × (unpacked (packed s) ≡ s)
   pub back : (p : PackedState) → p.bits < 2 ^ 50 → packed (unpacked p) ≡ p
