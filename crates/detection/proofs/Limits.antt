@@ -8,8 +8,7 @@ use lib.ListN.{replicate, take, drop, length-replicate}
 use Rattle.block.specs.Bits.{bits_of, value_from, xors, zeros}
 use Rattle.block.specs.Block.{block_of, body_of}
 use Rattle.block.specs.Division.{generator, remainder_from}
-use Rattle.block.specs.Read.{read_of}
-use Rattle.block.specs.declared.Read.TheVariants.{Block}
+use Rattle.block.specs.Read.{carried, read_of}
 use Rattle.block.proofs.RoundTrip.{written_good}
 use Rattle.block.proofs.Strings.{are_bits_lem}
 use Rattle.detection.specs.Slips.{Message, sent, window}
@@ -80,7 +79,7 @@ repeated = record { code = 0; word = 0x5d00; code_fits = omega arith; word_fits 
 turned : List ℕ
 turned = drop 28 (block_of 0 0x5d00) ++ take 28 (block_of 0 0x5d00)
 
-turned_reads : read_of turned ≡ Block 0 0xda7c000
+turned_reads : read_of turned ≡ carried 0 0xda7c000
 unfolding turned read_of block_of body_of bits_of value_from remainder_from
 turned_reads = refl
 

@@ -4,8 +4,7 @@
 use Rattle.std.specs.Prelude.{List, [], ◌∷◌, ◌≡◌, ℕ, ◌+◌, ◌*◌, ◌<◌, ◌≤◌, replicate}
 use Rattle.block.specs.Bits.{xors}
 use Rattle.block.specs.Block.{Good}
-use Rattle.block.specs.Read.{read_of}
-use Rattle.block.specs.declared.Read.TheVariants.{Block}
+use Rattle.block.specs.Read.{carried, read_of}
 use Rattle.detection.specs.Damage.{Pattern, Changed, Among, weight}
 use Rattle.detection.specs.Slips.{Message, sent, window}
 
@@ -13,7 +12,7 @@ use Rattle.detection.specs.Slips.{Message, sent, window}
 pub record Taken (s : List ℕ) : Type 0 where
   pub code : ℕ
   pub word : ℕ
-  pub reads : read_of s ≡ Block code word
+  pub reads : read_of s ≡ carried code word
 
 -- a change of four bits of a good block that is taken
 pub record FourTaken : Type 0 where

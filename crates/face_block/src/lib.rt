@@ -9,7 +9,8 @@ ghost use Rattle.block.specs.Read.{read_of};
 ghost use Rattle.block.specs.Write.{write_of, written_of, refusal_of};
 ghost use Rattle.face_block.specs.Face.{block_face, packed_face, version_of};
 
-use block::{Choice, Packed, Read, Written};
+use block::{Aerial, Body, Refused};
+use refusal::Refusal;
 
 // What reading a block answers: the refusal's number, 0 for none, then code and word, zeros where refused, and the remainder, zero
 // unless refused with 4.
@@ -32,72 +33,61 @@ pub struct PackedAnswer {
 
 // ---- each kind of answer as C is told it
 
-fn answer(read: Read) -> BlockAnswer
+fn answer(read: Result<Body, Refused>) -> BlockAnswer
     ensures { result ≡ block_face read }
 {
     match read {
-        Read::Block { code, word } => BlockAnswer {
+        Ok(body) => BlockAnswer {
             refusal: 0,
-            code,
-            word,
+            code: body.code,
+            word: body.word,
             remainder: 0,
         },
-        Read::Refused { refusal, remainder } => BlockAnswer {
-            refusal: refusal::number(refusal),
+        Err(refused) => BlockAnswer {
+            refusal: u8::from(refused.refusal),
             code: 0,
             word: 0,
-            remainder,
+            remainder: refused.remainder,
         },
     }
 }
 
-fn packed_answer(packed: Packed) -> PackedAnswer
+fn packed_answer(packed: Result<u64, Refusal>) -> PackedAnswer
     ensures { result ≡ packed_face packed }
 {
     match packed {
-        Packed::Number(block) => PackedAnswer { refusal: 0, block },
-        Packed::Refused(refusal) => PackedAnswer {
-            refusal: refusal::number(refusal),
+        Ok(block) => PackedAnswer { refusal: 0, block },
+        Err(refusal) => PackedAnswer {
+            refusal: u8::from(refusal),
             block: 0,
         },
     }
 }
 
 // The refusal's number, 0 where all is written.
-fn outcome(written: Written) -> u8
+fn outcome(written: Result<(), Refusal>) -> u8
     ensures { result ≡ refusal_of written }
 {
     match written {
-        Written::Whole => 0,
-        Written::Refused(refusal) => refusal::number(refusal),
+        Ok(()) => 0,
+        Err(refusal) => u8::from(refusal),
     }
 }
 
 // 1 for the first, 2 for the second, 0 for neither: C is told which, since a slice cannot be handed to it.
-fn tell(choice: Choice, number: &mut u8, remainder: &mut u16) -> u8
+fn tell(choice: Result<Aerial, Refused>, number: &mut u8, remainder: &mut u16) -> u8
     ensures choice { result ≡ chosen choice 1 2 0 }
     ensures number { number.new ≡ number_told choice }
     ensures remainder { remainder.new ≡ remainder_told choice }
 {
+    (*number, *remainder) = match choice {
+        Ok(_) => (0, 0),
+        Err(refused) => (u8::from(refused.refusal), refused.remainder),
+    };
     match choice {
-        Choice::First => {
-            *number = 0;
-            *remainder = 0;
-            1
-        }
-        Choice::Second => {
-            *number = 0;
-            *remainder = 0;
-            2
-        }
-        Choice::Neither {
-            refusal,
-            remainder: left,
-        } => {
-            *number = refusal::number(refusal);
-            *remainder = left;
-            0
-        }
+        Ok(Aerial::First) => 1,
+        Ok(Aerial::Second) => 2,
+        Err(_) => 0,
     }
 }
 
