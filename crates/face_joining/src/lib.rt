@@ -5,7 +5,7 @@ ghost use Rattle.std.specs.Prelude.{◌≡◌};
 ghost use Rattle.face_joining.specs.Face.{remainder_face};
 ghost use Rattle.joining.specs.Joining.{remainder_of, join_of};
 
-use joining::Divided;
+use refusal::Refusal;
 
 // What a string leaves: the refusal's number, 0 for none, then the remainder, zero where refused.
 #[repr(C)]
@@ -15,16 +15,16 @@ pub struct RemainderAnswer {
     pub remainder: u16,
 }
 
-fn answer(divided: Divided) -> RemainderAnswer
+fn answer(divided: Result<u16, Refusal>) -> RemainderAnswer
     ensures { result ≡ remainder_face divided }
 {
     match divided {
-        Divided::Remainder(remainder) => RemainderAnswer {
+        Ok(remainder) => RemainderAnswer {
             refusal: 0,
             remainder,
         },
-        Divided::Refused(refusal) => RemainderAnswer {
-            refusal: refusal::number(refusal),
+        Err(refusal) => RemainderAnswer {
+            refusal: u8::from(refusal),
             remainder: 0,
         },
     }

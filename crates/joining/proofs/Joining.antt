@@ -1,5 +1,6 @@
 -- Joining moves the first remainder up past the second string and adds the second's, and so its laws are those of zeros and of the sum.
 -- Assumes nothing.
+use Rattle.std.specs.Prelude.{Result, Ok}
 use mathlib.Core.Bool.{Bool, true, false}
 use mathlib.Core.List.{List, ◌++◌}
 use mathlib.Core.Path.{◌≡◌, refl, sym, ap, ap₂, ◌∙◌}
@@ -19,15 +20,13 @@ use Rattle.block.proofs.Xor.{xor_assoc}
 use Rattle.block.proofs.Zeros.{up, up_on, up_lt, up_xor}
 use Rattle.joining.specs.Joining.{must, remainder_of, join_of, remainder_in}
 use Rattle.joining.specs.Laws.{Joins, CallsAgree, JoiningLaw}
-use Rattle.joining.specs.declared.Divided.{Divided}
-use Rattle.joining.specs.declared.Divided.TheVariants.{Remainder}
 use Rattle.joining.proofs.Multiples.{up_none}
 use Rattle.joining.proofs.Powers.{times_power}
 
 -- a remainder came through a test only where the test held
-passed : (t : Bool) (refusal : Refusal) (answer : Divided) {r : ℕ} → must t refusal answer ≡ Remainder r → (t ≡ true) × (answer ≡ Remainder r)
+passed : (t : Bool) (refusal : Refusal) (answer : Result ℕ Refusal) {r : ℕ} → must t refusal answer ≡ Ok r → (t ≡ true) × (answer ≡ Ok r)
 passed true refusal answer e = (refl, e)
-passed false refusal answer e = absurd (let z : ◌≡◌ {A = ℕ} 0 1 = cc in omega arith)
+passed false refusal answer e = cc
 
 -- ---- what joining takes, and what it gives then
 
@@ -40,13 +39,13 @@ record Joined (a b n ab : ℕ) : Type 0 where
 whole_lt : {a b n ab : ℕ} → Joined a b n ab → ab < 8192
 whole_lt {a} {b} {n} j = rw j.whole (xor_lt 13 (up n a) b (up_lt n a j.first) j.second)
 
-taken : {a b n ab : ℕ} → Joined a b n ab → join_of a b n ≡ Remainder ab
+taken : {a b n ab : ℕ} → Joined a b n ab → join_of a b n ≡ Ok ab
 unfolding join_of
 taken {a} {b} {n} j =
     rw (le-leb n 65536 j.length, lt-ltb a 8192 j.first, lt-ltb b 8192 j.second, j.whole)
-    (ap (λ (r : ℕ). Remainder (bit_xor r b)) (times_power n a j.first))
+    (ap (λ (r : ℕ). Ok (bit_xor r b)) (times_power n a j.first))
 
-gives : (a b n ab : ℕ) → join_of a b n ≡ Remainder ab → Joined a b n ab
+gives : (a b n ab : ℕ) → join_of a b n ≡ Ok ab → Joined a b n ab
 unfolding join_of
 gives a b n ab e =
     let size = passed (leb n 65536) StringTooLong _ e in
@@ -73,12 +72,12 @@ joins xs ys hx hy l =
 
 -- ---- the two calls
 
-told : (s : List ℕ) → length s ≤ 65536 → Bits s → remainder_of s ≡ Remainder (remainder s)
+told : (s : List ℕ) → length s ≤ 65536 → Bits s → remainder_of s ≡ Ok (remainder s)
 unfolding remainder_of
 told s l h = rw (le-leb (length s) 65536 l, bits_are s h)
 
 -- what is told is told of bits
-of_bits : (s : List ℕ) (a : ℕ) → remainder_of s ≡ Remainder a → Bits s × (a ≡ remainder s)
+of_bits : (s : List ℕ) (a : ℕ) → remainder_of s ≡ Ok a → Bits s × (a ≡ remainder s)
 unfolding remainder_of
 of_bits s a e =
     let size = passed (leb (length s) 65536) StringTooLong _ e in
@@ -104,7 +103,7 @@ module _ (a b c m n ab bc : ℕ) (l : m + n ≤ 65536) (x : Joined a b m ab) (y 
 
   either_first : join_of ab c n ≡ join_of a bc (m + n)
   either_first =
-      taken record { length = y.length; first = whole_lt x; second = y.second; whole = refl } ∙ ap Remainder same
+      taken record { length = y.length; first = whole_lt x; second = y.second; whole = refl } ∙ ap Ok same
       ∙ sym (taken record { length = l; first = x.first; second = whole_lt y; whole = refl })
 
 pub joining_law : JoiningLaw

@@ -7,31 +7,21 @@ ghost use Rattle.joining.specs.Joining.{times, power_of_x, remainder_of, join_of
 use block::circuit::turn;
 use refusal::Refusal;
 
-// What a string leaves, or why that is not told.
-#[derive(Drop)]
-pub enum Divided {
-    Remainder(u16),
-    Refused(Refusal),
-}
-
 // The plain remainder of a string: a turn of the circuit for each bit, and none after the last.
-pub fn remainder_of(bits: &[u8]) -> Divided
+pub fn remainder_of(bits: &[u8]) -> Result<u16, Refusal>
     ensures { result ≡ remainder_of bits.now }
 {
     if 65_536 < bits.len() {
-        return Divided::Refused(Refusal::StringTooLong);
+        return Err(Refusal::StringTooLong);
     }
     let mut register: u32 = 0;
-    let mut i: usize = 0;
-    while i < bits.len() {
-        let bit = bits[i];
+    for &bit in bits {
         if 1 < bit {
-            return Divided::Refused(Refusal::NotABit);
+            return Err(Refusal::NotABit);
         }
         register = turn(register, bit) as u32;
-        i += 1;
     }
-    Divided::Remainder(register as u16)
+    Ok(register as u16)
 }
 
 // The product of two remainders, reduced by the generator: the second is added where the first has a coefficient, lowest first, and
@@ -43,6 +33,7 @@ fn times(first: u32, second: u32) -> u32
     let mut rest = first;
     let mut moved = second;
     let mut product: u32 = 0;
+    // It ends with the number at hand and counts nothing: a `for` over thirteen places would turn on after the last coefficient.
     while 0 < rest {
         product ^= rest % 2 * moved;
         moved = turn(moved, 0) as u32;
@@ -69,19 +60,19 @@ fn power_of_x(length: u32) -> u32
 
 // The remainder of two strings joined, from each one's remainder and the second's length: past the second's bits the first's moves
 // up as many places.
-pub fn join(first: u16, second: u16, length: u32) -> Divided
+pub fn join(first: u16, second: u16, length: u32) -> Result<u16, Refusal>
     ensures { result ≡ join_of first second length }
 {
     if 65_536 < length {
-        return Divided::Refused(Refusal::StringTooLong);
+        return Err(Refusal::StringTooLong);
     }
     if 8_191 < first {
-        return Divided::Refused(Refusal::NotARemainder);
+        return Err(Refusal::NotARemainder);
     }
     if 8_191 < second {
-        return Divided::Refused(Refusal::NotARemainder);
+        return Err(Refusal::NotARemainder);
     }
     let power = power_of_x(length);
     let moved = times(first as u32, power);
-    Divided::Remainder((moved as u16) ^ second)
+    Ok((moved as u16) ^ second)
 }

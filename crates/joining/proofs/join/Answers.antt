@@ -1,12 +1,12 @@
 -- `join` meets its contract: the tests in their order, and then the definition's own product and sum.
 -- Assumes nothing.
 use borrow.Author.Tests.{le-leb, lt-leb, le-ltb, lt-ltb}
+use Rattle.std.specs.Prelude.{Ok}
 use mathlib.Core.Path.{ap, ◌∙◌}
 use Prim.Native.Nat.{ℕ}
 use native.Mathlib.Omega.{arith}
 use lib.Bits.{bit_xor}
 use Rattle.joining.specs.Joining.{join_of, times}
-use Rattle.joining.specs.declared.Divided.TheVariants.{Remainder}
 use Rattle.joining.proofs.Products.{times_lt}
 use Rattle.joining.proofs.Powers.{is_small}
 use Rattle.joining.proofs.join.Goals as goal
@@ -41,4 +41,4 @@ unfolding join_of
 returns c =
     let given = c.args in
     rw (le-leb given.length 65536 (omega arith), lt-ltb given.first 8192 (omega arith), lt-ltb given.second 8192 (omega arith))
-    (ap (λ (r : ℕ). Remainder (bit_xor r given.second)) (c.times-moved.ensures ∙ ap (times given.first) c.power_of_x-power.ensures))
+    (ap (λ (r : ℕ). Ok (bit_xor r given.second)) (c.times-moved.ensures ∙ ap (times given.first) c.power_of_x-power.ensures))

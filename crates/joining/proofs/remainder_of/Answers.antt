@@ -3,7 +3,8 @@
 -- Assumes nothing.
 use borrow.Author.Tests.{le-leb, lt-leb}
 use mathlib.Core.Bool.{true, false}
-use mathlib.Core.Path.{◌≡◌, refl, sym, ap, ◌∙◌}
+use Rattle.std.specs.Prelude.{Ok}
+use mathlib.Core.Path.{◌≡◌, sym, ap, ◌∙◌}
 use Prim.Native.Nat.{ℕ, ◌<◌, ◌+◌}
 use native.Mathlib.Omega.{arith}
 use lib.ListN.{length, get_or, drop}
@@ -12,46 +13,41 @@ use Rattle.block.specs.Division.{remainder_from}
 use Rattle.block.proofs.Linear.{stepped_lt}
 use Rattle.block.proofs.Strings.{are_next, are_not, are_done, rem_next, rem_done}
 use Rattle.joining.specs.Joining.{remainder_of}
-use Rattle.joining.specs.declared.Divided.TheVariants.{Remainder}
 use Rattle.joining.proofs.remainder_of.Goals as goal
 
 pub returns-then-bits-gt65536 : goal.returns-then-bits-gt65536
 unfolding remainder_of
 returns-then-bits-gt65536 c = rw (lt-leb (length c.args.bits.now) 65536 (omega arith))
 
-pub loop-i-init : goal.loop-i-init
-loop-i-init c = (omega arith, omega arith, refl, refl)
-
 pub returns-then-bit-gt1 : goal.returns-then-bit-gt1
 unfolding remainder_of
 returns-then-bit-gt1 c =
     let s = c.args.bits.now in
-    let e : are_bits s ≡ false = sym c.loop-i.invariant.2 ∙ are_not s c.loop-i.i (omega arith) (omega arith) in
+    let e : are_bits s ≡ false = sym c.loop-bit.invariant.1 ∙ are_not s c.loop-bit.bit-index (omega arith) (omega arith) in
     rw (le-leb (length s) 65536 (omega arith), e)
 
 pub overflow_cast-register : goal.overflow_cast-register
 overflow_cast-register c =
-    omega (arith, stepped_lt c.turn-register.ensures c.loop-i.invariant.1 (omega arith))
+    omega (arith, stepped_lt c.turn-register.ensures c.loop-bit.invariant.0 (omega arith))
 
-pub loop-i-preserved : goal.loop-i-preserved
-loop-i-preserved c =
+pub loop-bit-preserved : goal.loop-bit-preserved
+loop-bit-preserved c =
     let s = c.args.bits.now in
-    let i = c.loop-i.i in
+    let i = c.loop-bit.bit-index in
     let b : get_or s i 0 < 2 = omega arith in (
-      omega arith,
-      stepped_lt c.turn-register.ensures c.loop-i.invariant.1 b,
-      sym (are_next s i (omega arith) b) ∙ c.loop-i.invariant.2,
+      stepped_lt c.turn-register.ensures c.loop-bit.invariant.0 b,
+      sym (are_next s i (omega arith) b) ∙ c.loop-bit.invariant.1,
       ap (λ (r : ℕ). remainder_from r (drop (i + 1) s)) c.turn-register.ensures
-          ∙ sym (rem_next s c.loop-i.register i (omega arith)) ∙ c.loop-i.invariant.3,
+          ∙ sym (rem_next s c.loop-bit.register i (omega arith)) ∙ c.loop-bit.invariant.2,
     )
 
 pub overflow_cast-result : goal.overflow_cast-result
-overflow_cast-result c = omega (arith, c.loop-i.invariant.1)
+overflow_cast-result c = omega (arith, c.loop-bit.invariant.0)
 
 pub returns : goal.returns
 unfolding remainder_of
 returns c =
     let s = c.args.bits.now in
-    let i = c.loop-i.i in
-    let e : are_bits s ≡ true = sym c.loop-i.invariant.2 ∙ are_done s i (omega arith) in
-    rw (le-leb (length s) 65536 (omega arith), e) (ap Remainder (sym (rem_done s c.loop-i.register i (omega arith)) ∙ c.loop-i.invariant.3))
+    let i = c.loop-bit.bit-index in
+    let e : are_bits s ≡ true = sym c.loop-bit.invariant.1 ∙ are_done s i (omega arith) in
+    rw (le-leb (length s) 65536 (omega arith), e) (ap Ok (sym (rem_done s c.loop-bit.register i (omega arith)) ∙ c.loop-bit.invariant.2))

@@ -2,16 +2,13 @@
 -- same ends.
 -- Assumes nothing.
 use mathlib.Core.Path.{◌≡◌}
-use Prim.Native.Nat.{◌≤◌, ◌<◌, ◌-◌}
-use lib.ListN.{length, drop}
+use Prim.Native.Nat.{◌<◌}
+use lib.ListN.{drop}
 use Rattle.block.specs.Bits.{are_bits}
 use Rattle.block.specs.Division.{remainder_from, remainder}
 use Rattle.joining.proofs.remainder_of.Given as goal
 
-abbrev pub invariant-loop-i : goal.invariant-loop-i
-invariant-loop-i l =
-    (l.i ≤ length l.bits) × (l.register < 8192)
-    × (are_bits (drop l.i l.bits) ≡ are_bits l.bits) × (remainder_from l.register (drop l.i l.bits) ≡ remainder l.bits)
-
-abbrev pub decreases-loop-i : goal.decreases-loop-i
-decreases-loop-i l = length l.bits - l.i
+abbrev pub invariant-loop-bit : goal.invariant-loop-bit
+invariant-loop-bit l =
+    (l.register < 8192)
+    × (are_bits (drop l.bit-index l.bits) ≡ are_bits l.bits) × (remainder_from l.register (drop l.bit-index l.bits) ≡ remainder l.bits)
