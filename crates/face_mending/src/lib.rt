@@ -3,8 +3,6 @@
 
 ghost use Rattle.face_mending.specs.Face.{MendsFace};
 
-use mending::Mended;
-
 // What became of a block: the refusal's number, 0 for none, then the first changed place and the pattern of the six from it, zeros
 // where nothing was changed.
 #[repr(C)]
@@ -20,13 +18,13 @@ pub extern "C" fn lw_mend_block(bits: &mut [u8]) -> MendedAnswer
     ensures { MendsFace bits.old result bits.new }
 {
     match mending::mend(bits) {
-        Mended::Block { place, pattern } => MendedAnswer {
+        Ok(change) => MendedAnswer {
             refusal: 0,
-            place,
-            pattern,
+            place: change.place,
+            pattern: change.pattern,
         },
-        Mended::Refused(refusal) => MendedAnswer {
-            refusal: refusal::number(refusal),
+        Err(refusal) => MendedAnswer {
+            refusal: u8::from(refusal),
             place: 0,
             pattern: 0,
         },

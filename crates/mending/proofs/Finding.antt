@@ -1,5 +1,7 @@
 -- What turning back finds decides: a change that makes the block good leaves what the block leaves, so it is the one that was found.
 -- Assumes nothing.
+use Rattle.refusal.specs.declared.Refusal.{Refusal}
+use Rattle.std.specs.Prelude.{Result, Err}
 use mathlib.Core.List.{List}
 use mathlib.Core.Path.{◌≡◌, refl, sym, ap, ap₂, ◌∙◌, subst}
 use Prim.Native.Nat.{ℕ, ◌+◌, ◌*◌, ◌/◌, ◌%◌, ◌^◌, ◌<◌, ◌≤◌}
@@ -16,10 +18,9 @@ use Rattle.block.proofs.Inverted.{good_inverted, inverted_good}
 use Rattle.block.proofs.Strings.{bits_bits_of, bits_of_first, bits_of_xor, length_bits_of}
 use Rattle.block.proofs.Zeros.{up, up_zero}
 use Rattle.mending.specs.Changes.{Makes}
-use Rattle.mending.specs.Mending.{Mends, one, none, good, bad}
+use Rattle.mending.specs.Mending.{Mends, one, none, good, bad, tells}
 use Rattle.mending.specs.Search.{TurnedBack, FromFirst}
-use Rattle.mending.specs.declared.Mended.{Mended}
-use Rattle.mending.specs.declared.Mended.TheVariants.{Block, Refused}
+use Rattle.mending.specs.declared.Change.{Change}
 use Rattle.mending.proofs.Backwards.{unfit}
 use Rattle.mending.proofs.Bursts.{Six, six_left, same_places}
 use Rattle.mending.proofs.CutOut.{burst_six}
@@ -38,11 +39,8 @@ module _ (n left rest behind : ℕ) (h : n < 2 ^ 50) (e : left ≡ remainder (in
   mended = bit_xor n (changes % 2 ^ 64)
 
   -- an answer, and the places that change for it
-  abbrev Asks : Mended → ℕ → Type 0
+  abbrev Asks : Result Change Refusal → ℕ → Type 0
   Asks answer places = (places < 2 ^ 50) × Mends s answer (bits_of 50 (bit_xor n places))
-
-  stays : {answer : Mended} → Mends s answer s → Asks answer 0
-  stays {answer} m = (omega arith, subst (λ (k : ℕ). Mends s answer (bits_of 50 k)) (sym (xor_zero_r n)) m)
 
   size : length s ≡ 50
   size = length_bits_of 50 n
@@ -66,8 +64,8 @@ module _ (n left rest behind : ℕ) (h : n < 2 ^ 50) (e : left ≡ remainder (in
         | no l ↦ t.earlier q.behind (omega arith) q.rest q.small (makes_up c m)
       ]
 
-  pub not_found : 64 ≤ rest → Asks (Refused NoSuchChange) 0
-  not_found w = stays (bad size bits (λ g. omega (arith, good_rest g)) (none (too_long w)))
+  pub not_found : 64 ≤ rest → Mends s (Err NoSuchChange) s
+  not_found w = bad size bits (λ g. omega (arith, good_rest g)) (none (too_long w))
 
   module _ (fits : rest < 64) where
     -- the shift loses nothing
@@ -97,26 +95,25 @@ module _ (n left rest behind : ℕ) (h : n < 2 ^ 50) (e : left ≡ remainder (in
         let none : changes ≡ 0 = ap (λ (r : ℕ). r * 2 ^ behind) z ∙ omega arith in
         ap (bit_xor n) (shifted ∙ none) ∙ xor_zero_r n
 
-    pub wrong_prefix : mended < 2 ^ 49 → Asks (Refused NoSuchChange) 0
+    pub wrong_prefix : mended < 2 ^ 49 → Mends s (Err NoSuchChange) s
     wrong_prefix w =
-        stays
-        (bad size bits (λ g. omega (arith, g.prefix, prefix_of n, untouched (good_rest g)))
-        (none (λ c m. omega (arith, (subst Good (the_change c m) m.good).prefix, prefix_of mended))))
+        bad size bits (λ g. omega (arith, g.prefix, prefix_of n, untouched (good_rest g)))
+        (none (λ c m. omega (arith, (subst Good (the_change c m) m.good).prefix, prefix_of mended)))
 
     module _ (w : 2 ^ 49 ≤ mended) where
       prefix_one : prefix_in (bits_of 50 mended) ≡ 1
       prefix_one = prefix_of mended ∙ omega (arith, xor_lt 50 n (changes % 2 ^ 64) h places_lt)
 
-      pub as_it_was : rest ≡ 0 → Asks (Block 0 0) 0
+      pub as_it_was : rest ≡ 0 → Asks (tells 0 0) 0
       unfolding remainder_from
       as_it_was z =
           let none-behind : behind ≡ 0 = elim (dec_le 1 behind) [ yes l ↦ absurd (omega (arith, t.filled l)) | no l ↦ omega arith ] in
-          stays
-          (good
-          (inverted_good s size bits
-          (ap (λ (m : ℕ). prefix_in (bits_of 50 m)) (sym (untouched z)) ∙ prefix_one, sym e ∙ sym t.forth ∙ ap₂ up none-behind z)))
+          let m : Good s =
+          inverted_good s size bits
+          (ap (λ (m : ℕ). prefix_in (bits_of 50 m)) (sym (untouched z)) ∙ prefix_one, sym e ∙ sym t.forth ∙ ap₂ up none-behind z) in
+          (omega arith, subst (λ (k : ℕ). Mends s (tells 0 0) (bits_of 50 k)) (sym (xor_zero_r n)) (good m))
 
-      pub put_right : 0 < rest → {place pattern : ℕ} → FromFirst changes place pattern → Asks (Block place pattern) (changes % 2 ^ 64)
+      pub put_right : 0 < rest → {place pattern : ℕ} → FromFirst changes place pattern → Asks (tells place pattern) (changes % 2 ^ 64)
       put_right p {place} {pattern} f =
           let c : List ℕ = bits_of 50 changes in
           let makes : Makes s c =
@@ -125,8 +122,8 @@ module _ (n left rest behind : ℕ) (h : n < 2 ^ 50) (e : left ≡ remainder (in
             good = makes_good s c size bits (length_bits_of 50 changes) (bits_bits_of 50 changes) (ap prefix_in (sym mended_bits) ∙ prefix_one) (six_left found ∙ t.forth ∙ e);
           } in (
             places_lt,
-            subst (Mends s (Block place pattern)) (sym mended_bits)
-                (subst (λ (p : ℕ). Mends s (Block place p) (xors s c)) (told_pattern changes place pattern f)
+            subst (Mends s (tells place pattern)) (sym mended_bits)
+                (subst (λ (p : ℕ). Mends s (tells place p) (xors s c)) (told_pattern changes place pattern f)
                 (bad size bits (λ g. omega (arith, good_rest g))
                 (one c makes (λ d m. only_one s size bits d c m makes) place (told_first changes place pattern f)))),
           )

@@ -16,9 +16,8 @@ use Rattle.detection.specs.Damage.{weight}
 use Rattle.detection.proofs.Damage.{changed_bits, changed_size}
 use Rattle.mending.specs.Changes.{Burst, Makes}
 use Rattle.mending.specs.Limits.{Seven, received, SevenMendedWrongly, SevenRefused}
-use Rattle.mending.specs.Mending.{Mends, bad, one, none}
+use Rattle.mending.specs.Mending.{Mends, bad, one, none, tells}
 use Rattle.mending.specs.Search.{FromFirst}
-use Rattle.mending.specs.declared.Mended.TheVariants.{Block}
 use Rattle.mending.proofs.FirstPlace.{told_burst, told_first, told_pattern, within}
 use Rattle.mending.proofs.OnlyOne.{bursts_differ, burst_leaves, makes_left, only_one}
 
@@ -88,7 +87,7 @@ seven_mended_wrongly =
       place = 11;
       pattern = 0b111110;
       mends =
-          subst (λ (p : ℕ). Mends s (Block 11 p) (xors s e)) (told_pattern taken_for 11 0b111110 taken_first)
+          subst (λ (p : ℕ). Mends s (tells 11 p) (xors s e)) (told_pattern taken_for 11 0b111110 taken_first)
           (bad (size wrongly) (bits wrongly) (λ g. omega (arith, wrongly_left, (good_inverted s g).1))
           (one e wrongly_makes (λ d m. only_one s (size wrongly) (bits wrongly) d e m wrongly_makes) 11 (told_first taken_for 11 0b111110 taken_first)));
       other = not_sent;

@@ -1,5 +1,7 @@
 -- What is handed back is the one good block that is near: two blocks of which one is near the other differ by a burst.
 -- Assumes nothing.
+use Rattle.refusal.specs.declared.Refusal.{Refusal}
+use Rattle.std.specs.Prelude.{Result, Ok, Err}
 use mathlib.Core.List.{List, [], ◌++◌}
 use mathlib.Core.Logic.{◌⊎◌, inl, inr, ⊎_elim}
 use mathlib.Core.Path.{◌≡◌, refl, sym, ap, ◌∙◌, subst}
@@ -11,16 +13,14 @@ use lib.Seq.{take_at}
 use Rattle.refusal.specs.declared.Refusal.TheVariants.{NoSuchChange}
 use Rattle.block.specs.Bits.{Bits, bits_of, xors, zeros}
 use Rattle.block.specs.Block.{Good}
-use Rattle.block.specs.Packed.{refusal_packed}
 use Rattle.block.proofs.Inverted.{good_inverted}
 use Rattle.block.proofs.Strings.{bits_append, bits_xors, bits_zeros, length_xors, xors_cancel}
 use Rattle.detection.specs.Damage.{Changed, weight}
 use Rattle.detection.proofs.Places.{changed_before, changed_lt, changed_weight, unchanged}
 use Rattle.mending.specs.Changes.{Within, Burst, Makes, First, six_from}
 use Rattle.mending.specs.Laws.{changes_of, HandedBack, BlocksHandedBack, NoneNear}
-use Rattle.mending.specs.Mending.{refusal_in, place_in, pattern_in, Mends, refused, good, bad, MendsBad, one, none, several}
-use Rattle.mending.specs.declared.Mended.{Mended}
-use Rattle.mending.specs.declared.Mended.TheVariants.{Block, Refused}
+use Rattle.mending.specs.Mending.{refusal_of, place_in, pattern_in, Mends, refused, good, bad, MendsBad, one, none, several, tells}
+use Rattle.mending.specs.declared.Change.{Change}
 use Rattle.mending.proofs.CutOut.{cut_out}
 use Rattle.mending.proofs.Goodness.{xors_none}
 use Rattle.mending.proofs.Once.{packing_few}
@@ -56,25 +56,25 @@ told e k b f =
 far : (s : List ℕ) → length s ≡ 50 → Bits s → (Good s → ⊥) → ((e : List ℕ) → Makes s e → ⊥) → (t : List ℕ) → Good t → Within 6 (xors s t) → ⊥
 far s l h f n t g w = ⊎_elim (λ e. f (subst Good e g)) (λ m. n (xors s t) m) (near_good s t l h g w)
 
-bad_none : (s : List ℕ) → length s ≡ 50 → Bits s → (Good s → ⊥) → (x : Mended) (after : List ℕ) → MendsBad s x after → refusal_in x ≡ 15
+bad_none : (s : List ℕ) → length s ≡ 50 → Bits s → (Good s → ⊥) → (x : Result Change Refusal) (after : List ℕ) → MendsBad s x after → refusal_of x ≡ 15
     → (after ≡ s) × ((t : List ℕ) → Good t → Within 6 (xors s t) → ⊥)
 bad_none s l h f x after (one e m u k i) z = absurd (omega arith)
 bad_none s l h f x after (none n) z = (refl, far s l h f n)
 bad_none s l h f x after (several d e m o n) z = absurd (omega arith)
 
-none_with_15 : (s : List ℕ) (x : Mended) (after : List ℕ) → Mends s x after → refusal_in x ≡ 15 → (after ≡ s) × ((t : List ℕ) → Good t → Within 6 (xors s t) → ⊥)
-none_with_15 s x after (refused why e) z = absurd (omega (arith, packing_few s, ap refusal_packed e))
+none_with_15 : (s : List ℕ) (x : Result Change Refusal) (after : List ℕ) → Mends s x after → refusal_of x ≡ 15 → (after ≡ s) × ((t : List ℕ) → Good t → Within 6 (xors s t) → ⊥)
+none_with_15 s x after (refused why e) z = absurd (omega (arith, packing_few s, ap refusal_of e))
 none_with_15 s x after (good g) z = absurd (omega arith)
 none_with_15 s x after (bad l h f p) z = bad_none s l h f x after p z
 
 pub none_near : NoneNear
-none_near s after p = none_with_15 s (Refused NoSuchChange) after p refl
+none_near s after p = none_with_15 s (Err NoSuchChange) after p refl
 
 -- ---- handed back
 
-abbrev hands_back : Mended → ℕ
-hands_back (Block place pattern) = 1
-hands_back (Refused why) = 0
+abbrev hands_back : Result Change Refusal → ℕ
+hands_back (Ok change) = 1
+hands_back (Err why) = 0
 
 as_it_came : (s : List ℕ) → Good s → HandedBack s s 0 0
 unfolding bits_of
@@ -104,15 +104,15 @@ module _ (s : List ℕ) (l : length s ≡ 50) (h : Bits s) (f : Good s → ⊥) 
         again = good m.good;
       }
 
-  bad_handed : (x : Mended) (after : List ℕ) → MendsBad s x after → hands_back x ≡ 1 → HandedBack s after (place_in x) (pattern_in x)
+  bad_handed : (x : Result Change Refusal) (after : List ℕ) → MendsBad s x after → hands_back x ≡ 1 → HandedBack s after (place_in x) (pattern_in x)
   bad_handed x after (one e m u k i) z = changed e k m i
   bad_handed x after (none n) z = absurd (omega arith)
   bad_handed x after (several d e m o n) z = absurd (omega arith)
 
-handed : (s : List ℕ) (x : Mended) (after : List ℕ) → Mends s x after → hands_back x ≡ 1 → HandedBack s after (place_in x) (pattern_in x)
+handed : (s : List ℕ) (x : Result Change Refusal) (after : List ℕ) → Mends s x after → hands_back x ≡ 1 → HandedBack s after (place_in x) (pattern_in x)
 handed s x after (refused why e) z = absurd (omega arith)
 handed s x after (good g) z = as_it_came s g
 handed s x after (bad l h f p) z = bad_handed s l h f x after p z
 
 pub blocks_handed_back : BlocksHandedBack
-blocks_handed_back s after place pattern p = handed s (Block place pattern) after p refl
+blocks_handed_back s after place pattern p = handed s (tells place pattern) after p refl

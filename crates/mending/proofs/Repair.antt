@@ -16,8 +16,7 @@ use Rattle.detection.proofs.Refusal as refusal
 use Rattle.detection.specs.Slips.{IsRefused}
 use Rattle.mending.specs.Changes.{Burst, Makes, six_from}
 use Rattle.mending.specs.Laws.{BurstsDiffer, MendedBack, BurstsMended, SingleMended, NeighboursMended, TwoBurstsRefused}
-use Rattle.mending.specs.Mending.{Mends, bad, one}
-use Rattle.mending.specs.declared.Mended.TheVariants.{Block}
+use Rattle.mending.specs.Mending.{Mends, bad, one, tells}
 use Rattle.mending.proofs.CutOut.{first_of}
 use Rattle.mending.proofs.OnlyOne.{bursts_differ, burst_leaves, makes_left, only_one}
 
@@ -53,7 +52,7 @@ module _ (s e : List ℕ) (g : Good s) (b : Burst 6 e) where
         place = f.0;
         first = f.1;
         mends =
-            subst (Mends received (Block f.0 (six_from f.0 e))) changed_back
+            subst (Mends received (tells f.0 (six_from f.0 e))) changed_back
             (bad size bits not_good (one e makes (λ d m. only_one received size bits d e m makes) f.0 f.1));
       }
 

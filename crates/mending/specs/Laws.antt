@@ -1,6 +1,7 @@
 -- What holds of mending (02, No. 8).
 -- Assumes nothing.
-use Rattle.std.specs.Prelude.{List, ◌++◌, ◌≡◌, ℕ, ◌-◌, eqb, take}
+use Rattle.refusal.specs.declared.Refusal.{Refusal}
+use Rattle.std.specs.Prelude.{List, ◌++◌, ◌≡◌, ℕ, ◌-◌, Result, Err, eqb, take}
 use Rattle.refusal.specs.declared.Refusal.TheVariants.{NoSuchChange, SeveralChanges}
 use Rattle.block.specs.Bits.{bits_of, xors, zeros}
 use Rattle.block.specs.Block.{Good, prefix_in}
@@ -9,9 +10,8 @@ use Rattle.block.specs.Read.{read_of, refusal_in}
 use Rattle.detection.specs.Damage.{Changed, Among, Pattern, weight, refused_with}
 use Rattle.detection.specs.Slips.{IsRefused}
 use Rattle.mending.specs.Changes.{Within, Burst, First, six_from}
-use Rattle.mending.specs.Mending.{Mends}
-use Rattle.mending.specs.declared.Mended.{Mended}
-use Rattle.mending.specs.declared.Mended.TheVariants.{Block, Refused}
+use Rattle.mending.specs.Mending.{Mends, tells}
+use Rattle.mending.specs.declared.Change.{Change}
 
 -- no two bursts of six leave the same, and none leaves nothing
 pub record BurstsDiffer : Type 0 where
@@ -20,11 +20,11 @@ pub record BurstsDiffer : Type 0 where
 
 -- so 16 never comes, whatever the bytes are
 abbrev pub NeverSeveral : Type 0
-NeverSeveral = (s after : List ℕ) → Mends s (Refused SeveralChanges) after → ⊥
+NeverSeveral = (s after : List ℕ) → Mends s (Err SeveralChanges) after → ⊥
 
 -- what mending may answer and leave is one thing alone
 abbrev pub Once : Type 0
-Once = (s : List ℕ) (x y : Mended) (t u : List ℕ) → Mends s x t → Mends s y u → (x ≡ y) × (t ≡ u)
+Once = (s : List ℕ) (x y : Result Change Refusal) (t u : List ℕ) → Mends s x t → Mends s y u → (x ≡ y) × (t ≡ u)
 
 -- The changes e of a block s are found and taken back: the reader refuses the changed block, and mending tells the first changed place and
 -- the six places from it and leaves what was sent.
@@ -32,7 +32,7 @@ pub record MendedBack (s e : List ℕ) : Type 0 where
   pub refused : refusal_in (read_of (xors s e)) ≡ refused_with (eqb (prefix_in e) 1)
   pub place : ℕ
   pub first : First e place
-  pub mends : Mends (xors s e) (Block place (six_from place e)) s
+  pub mends : Mends (xors s e) (tells place (six_from place e)) s
 
 -- The report's claim that the code puts right every burst of up to six places (BBC RD 1984/19, 5.3): in every good block, whether the
 -- burst leaves the prefix or changes it.
@@ -61,11 +61,11 @@ pub record HandedBack (s after : List ℕ) (place pattern : ℕ) : Type 0 where
   pub near : Within 6 (xors s after)
   pub only : (t : List ℕ) → Good t → Within 6 (xors s t) → t ≡ after
   pub difference : xors s after ≡ changes_of place pattern
-  pub again : Mends after (Block 0 0) after
+  pub again : Mends after (tells 0 0) after
 
 abbrev pub BlocksHandedBack : Type 0
-BlocksHandedBack = (s after : List ℕ) (place pattern : ℕ) → Mends s (Block place pattern) after → HandedBack s after place pattern
+BlocksHandedBack = (s after : List ℕ) (place pattern : ℕ) → Mends s (tells place pattern) after → HandedBack s after place pattern
 
 -- what is refused with 15 stays, and no good block is within six places of it
 abbrev pub NoneNear : Type 0
-NoneNear = (s after : List ℕ) → Mends s (Refused NoSuchChange) after → (after ≡ s) × ((t : List ℕ) → Good t → Within 6 (xors s t) → ⊥)
+NoneNear = (s after : List ℕ) → Mends s (Err NoSuchChange) after → (after ≡ s) × ((t : List ℕ) → Good t → Within 6 (xors s t) → ⊥)

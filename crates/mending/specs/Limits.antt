@@ -1,12 +1,11 @@
 -- Where mending's promise ends: bursts of seven. One is mended to another block than was sent, and one is refused.
 -- Assumes nothing.
-use Rattle.std.specs.Prelude.{List, ◌≡◌, ℕ}
+use Rattle.std.specs.Prelude.{List, ◌≡◌, ℕ, Err}
 use Rattle.refusal.specs.declared.Refusal.TheVariants.{NoSuchChange}
 use Rattle.block.specs.Bits.{xors}
 use Rattle.block.specs.Block.{Good}
 use Rattle.mending.specs.Changes.{Burst}
-use Rattle.mending.specs.Mending.{Mends}
-use Rattle.mending.specs.declared.Mended.TheVariants.{Block, Refused}
+use Rattle.mending.specs.Mending.{Mends, tells}
 
 -- a good block and a burst of seven; what is sent and what is received. That six places do not hold the burst follows from `BurstsMended`
 pub record Seven : Type 0 where
@@ -23,9 +22,9 @@ pub record SevenMendedWrongly : Type 0 where
   pub after : List ℕ
   pub place : ℕ
   pub pattern : ℕ
-  pub mends : Mends (received seven) (Block place pattern) after
+  pub mends : Mends (received seven) (tells place pattern) after
   pub other : after ≡ seven.sent → ⊥
 
 pub record SevenRefused : Type 0 where
   pub seven : Seven
-  pub refused : Mends (received seven) (Refused NoSuchChange) (received seven)
+  pub refused : Mends (received seven) (Err NoSuchChange) (received seven)

@@ -5,6 +5,7 @@ ghost use Rattle.block.specs.Block.{inverted};
 ghost use Rattle.block.specs.Division.{remainder, step_bit};
 ghost use Rattle.mending.specs.Search.{TurnedBack, FromFirst};
 
+use crate::Change;
 use block::circuit::{GENERATOR, remainder, turn};
 
 // What is left after some turns back: the last of the changed places have as many behind them as it was turned.
@@ -12,13 +13,6 @@ use block::circuit::{GENERATOR, remainder, turn};
 pub struct Turned {
     pub rest: u32,
     pub behind: u32,
-}
-
-// Six neighbouring places from the first one that is changed, that one highest.
-#[derive(Drop)]
-pub struct Burst {
-    pub place: u32,
-    pub pattern: u32,
 }
 
 // What all fifty bits leave, the first inverted.
@@ -44,27 +38,23 @@ pub fn turned_back(left: u32) -> Turned
     ensures { TurnedBack left result.rest result.behind }
 {
     let mut rest = left;
-    let mut behind: u32 = 0;
-    while behind < 44 {
+    for behind in 0..44 {
         if rest < 64 {
             return Turned { rest, behind };
         }
         rest = turn_back(rest);
-        behind += 1;
     }
-    Turned { rest, behind }
+    Turned { rest, behind: 44 }
 }
 
 // Moves a pattern up to its first changed place; what comes in past the end is 0.
-pub fn from_first(rest: u32, behind: u32) -> Burst
+pub fn from_first(rest: u32, behind: u32) -> Change
     requires { (0 < rest) × (rest < 64) × (behind ≤ 44) }
     ensures { FromFirst (rest * 2 ^ behind) result.place result.pattern }
 {
-    let mut pattern = rest;
-    let mut place = 44 - behind;
-    while pattern < 32 {
-        pattern *= 2;
-        place += 1;
+    let up = rest.leading_zeros() - 26;
+    Change {
+        place: (44 - behind + up) as u8,
+        pattern: (rest << up) as u8,
     }
-    Burst { place, pattern }
 }

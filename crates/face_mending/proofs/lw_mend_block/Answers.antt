@@ -2,10 +2,10 @@
 -- Assumes nothing.
 use Rattle.face_mending.proofs.lw_mend_block.Goals as goal
 
-pub returns-in-Block : goal.returns-in-Block
-returns-in-Block c =
-    record { mended = c.mend.result; mends = c.mend.ensures; flat = rw c.in-Block.is }
+pub returns-in-Ok : goal.returns-in-Ok
+returns-in-Ok c =
+    record { mended = c.mend.result; mends = c.mend.ensures; flat = rw c.in-Ok.is }
 
-pub returns-in-Refused : goal.returns-in-Refused
-returns-in-Refused c =
-    record { mended = c.mend.result; mends = c.mend.ensures; flat = rw (c.in-Refused.is, c.number.ensures) }
+pub returns-in-Err : goal.returns-in-Err
+returns-in-Err c =
+    record { mended = c.mend.result; mends = c.mend.ensures; flat = rw (c.in-Err.is, c.from.ensures) }

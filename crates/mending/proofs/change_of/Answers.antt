@@ -21,16 +21,10 @@ returns-then-rest-eq0 c =
 pub returns : goal.returns
 returns c =
     put_right c.args.block c.left_by.result _ _ c.requires c.left_by.ensures c.turned_back-turned.ensures (omega arith) (omega arith)
-    (omega arith) c.from_first-burst.ensures
+    (omega arith) c.from_first.ensures
 
 pub turned_back-turned-requires : goal.turned_back-turned-requires
 turned_back-turned-requires c = left_lt c.args.block c.left_by.ensures
 
-pub from_first-burst-requires : goal.from_first-burst-requires
-from_first-burst-requires c = (omega arith, omega arith, c.turned_back-turned.ensures.inside)
-
-pub overflow_cast-result : goal.overflow_cast-result
-overflow_cast-result c = omega (arith, c.from_first-burst.ensures.inside)
-
-pub overflow_cast-result-2 : goal.overflow_cast-result-2
-overflow_cast-result-2 c = omega (arith, c.from_first-burst.ensures.low)
+pub from_first-requires : goal.from_first-requires
+from_first-requires c = (omega arith, omega arith, c.turned_back-turned.ensures.inside)

@@ -1,47 +1,62 @@
--- `from_first` meets its contract. The loop's invariant: moving the pattern up and its first place on leaves the changed places the same.
+-- `from_first` meets its contract: the highest 1 of a rest of up to six places comes to stand in the first of them.
 -- Assumes nothing.
-use mathlib.Core.Path.{◌≡◌, ◌∙◌}
-use Prim.Native.Nat.{ℕ, suc, ◌+◌, ◌-◌, ◌*◌, ◌^◌, ◌<◌, ◌≤◌}
+use Rattle.std.proofs.lemmas.Nat.{leading_top}
+use Rattle.std.specs.Int.Count.{count_leading_zeros}
+use mathlib.Core.Path.{◌≡◌, sym, ap, ◌∙◌}
+use Prim.Native.Nat.{ℕ, suc, ◌+◌, ◌-◌, ◌*◌, ◌%◌, ◌^◌, ◌<◌, ◌≤◌}
 use native.Mathlib.Decide.{dec_le}
-use native.Mathlib.Nat.{pow-suc}
+use native.Mathlib.Nat.{mod-eq_of_lt, mul-le-mul_right}
 use native.Mathlib.Omega.{arith}
-use lib.Pow.{pow-add}
+use lib.Pow.{pow-add, pow_mono, shl_lt}
+use Rattle.mending.specs.Search.{FromFirst}
 use Rattle.mending.proofs.search.from_first.Goals as goal
 
--- behind the last of the six places stand five fewer than behind the first
-begins : (rest behind : ℕ) → behind ≤ 44 → rest * 2 ^ (49 - (44 - behind)) ≡ rest * 2 ^ behind * 32
-begins rest behind h =
-    let e : 49 - (44 - behind) ≡ behind + 5 = omega arith in
-    rw (e, pow-add 2 behind 5) (omega arith)
+module _ (rest : ℕ) (p : 0 < rest) (h : rest < 64) where
+  up : ℕ
+  up = count_leading_zeros 32 rest - 26
 
--- a pattern that is not high has places behind its first one
-more : (p place m : ℕ) → p * 2 ^ (49 - place) ≡ m * 32 → place ≤ 49 → 0 < p → p < 32 → place < 49
-more p place m e l h k =
-    elim (dec_le 49 place) [
-      | yes g ↦ absurd (let z : 49 - place ≡ 0 = omega arith in let d : p * 2 ^ 0 ≡ m * 32 = rw z at e in omega arith)
-      | no g ↦ omega arith
-    ]
+  top : (j : ℕ) × (count_leading_zeros 32 rest + suc j ≡ 32) × (2 ^ j ≤ rest) × (rest < 2 ^ suc j)
+  top = leading_top 32 rest p (omega arith)
 
-moved : (p place : ℕ) → place < 49 → p * 2 * 2 ^ (49 - (place + 1)) ≡ p * 2 ^ (49 - place)
-moved p place h =
-    let e : 49 - place ≡ suc (49 - (place + 1)) = omega arith in
-    rw (e, pow-suc) (omega arith)
+  abbrev highest : ℕ
+  highest = top.0
 
-pub loop-pattern-init : goal.loop-pattern-init
-loop-pattern-init c = let a = c.args in (begins a.rest a.behind (omega arith), omega arith, omega arith, omega arith)
+  among_six : highest ≤ 5
+  among_six = elim (dec_le 6 highest) [ yes l ↦ absurd (omega (arith, pow_mono l, top.2)) | no l ↦ omega arith ]
 
-pub loop-pattern-smaller : goal.loop-pattern-smaller
-loop-pattern-smaller c =
-    let at = c.loop-pattern in
-    let a = c.args in
-    omega (arith, more at.pattern at.place (a.rest * 2 ^ a.behind) at.invariant.0 at.invariant.1 at.invariant.2 (omega arith))
+  enough : 26 ≤ count_leading_zeros 32 rest
+  enough = omega (arith, top.1, among_six)
 
-pub loop-pattern-preserved : goal.loop-pattern-preserved
-loop-pattern-preserved c =
-    let at = c.loop-pattern in
-    let a = c.args in
-    let l : at.place < 49 = more at.pattern at.place (a.rest * 2 ^ a.behind) at.invariant.0 at.invariant.1 at.invariant.2 (omega arith) in
-    (moved at.pattern at.place l ∙ at.invariant.0, omega arith, omega arith, omega arith)
+  places : highest + up ≡ 5
+  unfolding up
+  places = omega (arith, top.1, among_six)
+
+  first : 2 ^ highest * 2 ^ up ≡ 32
+  first = sym (pow-add 2 highest up) ∙ ap (λ (n : ℕ). 2 ^ n) places
+
+  high : 32 ≤ rest * 2 ^ up
+  high = omega (arith, mul-le-mul_right (2 ^ up) top.2, first)
+
+  low : rest * 2 ^ up < 64
+  low = let e : suc highest + up ≡ 6 = omega (arith, places) in rw e at (shl_lt {a = rest} (suc highest) up top.3)
+
+  shifted : rest * 2 ^ up % 2 ^ 32 ≡ rest * 2 ^ up
+  shifted = mod-eq_of_lt (omega (arith, low))
+
+  from_first_lem : (behind : ℕ) → behind ≤ 44 → FromFirst (rest * 2 ^ behind) (44 - behind + up) (rest * 2 ^ up % 2 ^ 32)
+  from_first_lem behind inside =
+      let e : 49 - (44 - behind + up) ≡ behind + highest = omega (arith, places) in
+      let d : rest * 2 ^ behind * (2 ^ highest * 2 ^ up) ≡ rest * 2 ^ behind * 32 = ap (λ (n : ℕ). rest * 2 ^ behind * n) first in
+      rw shifted
+      (record { is = rw (e, pow-add 2 behind highest) (omega arith); inside = omega (arith, places); high = high; low = low })
+
+pub overflow_sub-up : goal.overflow_sub-up
+overflow_sub-up c = enough c.args.rest c.requires.0 c.requires.1
+
+pub overflow_cast-result-2 : goal.overflow_cast-result-2
+unfolding up
+overflow_cast-result-2 c = omega (arith, shifted c.args.rest c.requires.0 c.requires.1, low c.args.rest c.requires.0 c.requires.1)
 
 pub returns : goal.returns
-returns c = let at = c.loop-pattern in record { is = at.invariant.0; inside = at.invariant.1; high = omega arith; low = at.invariant.3 }
+unfolding up
+returns c = from_first_lem c.args.rest c.requires.0 c.requires.1 c.args.behind c.requires.2

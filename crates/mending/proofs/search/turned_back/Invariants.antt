@@ -2,14 +2,11 @@
 -- places gives it with fewer places behind.
 -- Assumes nothing.
 use mathlib.Core.Path.{◌≡◌}
-use Prim.Native.Nat.{ℕ, ◌-◌, ◌<◌, ◌≤◌}
+use Prim.Native.Nat.{ℕ, ◌<◌, ◌≤◌}
 use Rattle.block.proofs.Zeros.{up}
 use Rattle.mending.proofs.search.turned_back.Given as goal
 
 abbrev pub invariant-loop-behind : goal.invariant-loop-behind
 invariant-loop-behind l =
-    (up l.behind l.rest ≡ l.left) × (l.rest < 8192) × (l.behind ≤ 44) × (0 < l.behind → 32 ≤ l.rest)
+    (up l.behind l.rest ≡ l.left) × (l.rest < 8192) × (0 < l.behind → 32 ≤ l.rest)
     × ((m : ℕ) → m < l.behind → (w : ℕ) → w < 64 → up m w ≡ l.left → ⊥)
-
-abbrev pub decreases-loop-behind : goal.decreases-loop-behind
-decreases-loop-behind l = 44 - l.behind
