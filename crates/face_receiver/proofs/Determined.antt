@@ -2,6 +2,7 @@
 -- Assumes nothing.
 use mathlib.Core.Path.{sym, ◌∙◌}
 use Rattle.refusal.proofs.Determined.{Determined, Leaves}
+use Rattle.face_receiver.proofs.StandingAnswerFromStanding.from.Reads as told
 use Rattle.face_receiver.proofs.lw_feed.Reads as feed
 use Rattle.face_receiver.proofs.lw_feed_packed.Reads as feed_packed
 use Rattle.face_receiver.proofs.lw_fresh.Reads as fresh
@@ -53,3 +54,6 @@ watch_run_determined κs a x y s t p q = p.0 ∙ sym q.0
 
 pub watch_run_leaves : Leaves watch_run.Post (λ κs s. s.1.0.now)
 watch_run_leaves κs a x y s t p q = p.1 ∙ sym q.1
+
+pub told_determined : Determined told.Post
+told_determined κs a x y s t p q = p ∙ sym q

@@ -2,19 +2,42 @@
 // handed back.
 #![tactic(auto)]
 
-ghost use Rattle.std.specs.Prelude.{◌≡◌};
+ghost use Rattle.std.specs.Prelude.{◌≡◌, MatchResult};
 ghost use Rattle.face_receiver.specs.Face.{told_face, standing_face};
 ghost use Rattle.face_receiver.specs.Under.{run_under, fed_under, run_packed_under, fed_packed_under, watched_under, why_under};
-ghost use Rattle.receiver.specs.Packed.{fresh_packed, refused_packed};
+ghost use Rattle.receiver.specs.Packed.{fresh_packed};
 ghost use Rattle.receiver.specs.Runs.{refused_run};
 ghost use Rattle.receiver.specs.States.{fresh_of};
+ghost use Rattle.receiver.specs.declared.Ran.{Ran};
+ghost use Rattle.record.specs.Editions.{edition_of};
 ghost use Rattle.refusal.specs.Numbers.{number_of};
-ghost use Rattle.watch.specs.Watches.{fresh_watch, refused_watch};
+ghost use Rattle.watch.specs.Watches.{fresh_watch};
 
-use receiver::{Counts, PackedRan, PackedState, Ran, State};
-use record::Named;
+use receiver::{Counts, PackedState, Ran, State, refused};
+use record::Edition;
 use refusal::Refusal;
-use watch::{Standing, Watch, Watched};
+use watch::{Standing, Watch};
+
+// What is called runs into what is lent, under the edition that a number names. Where it names none nothing is counted, and what is lent
+// stays as it was.
+fn under<S: Copy, F: FnOnce(Edition, S) -> Ran<S> + Drop>(
+    edition: u16,
+    lent: &mut S,
+    call: F,
+) -> Counts
+    requires { F.IsAlwaysCallable call }
+    ensures { (ran : Ran S) × (result ≡ ran.counts) × (lent.new ≡ ran.state)
+        × MatchResult (edition_of edition) (λ edition. F.post call edition lent.old ran) (λ why. ran ≡ refused_run (number_of why) lent.old) }
+{
+    match Edition::try_from(edition) {
+        Ok(edition) => {
+            let ran = call(edition, *lent);
+            *lent = ran.state;
+            ran.counts
+        }
+        Err(why) => refused(why, *lent).counts,
+    }
+}
 
 // Hunting, with nothing waiting and no time.
 pub fn lw_fresh() -> State
@@ -23,49 +46,20 @@ pub fn lw_fresh() -> State
     receiver::fresh()
 }
 
-// No such edition: nothing is counted, and the state is as it was.
-fn refused_run(why: Refusal, state: State) -> Ran
-    ensures { result ≡ refused_run (number_of why) state }
-{
-    let counts = receiver::refused(why);
-    Ran { counts, state }
-}
-
-// What a lent state becomes, and its counts, where the edition is given by its number.
-fn feed_under(edition: u16, state: State, bit: u8) -> Ran
-    ensures { result ≡ fed_under edition state bit }
-{
-    match record::edition_of(edition) {
-        Named::Given(edition) => receiver::step(edition, state, bit),
-        Named::Refused(why) => refused_run(why, state),
-    }
-}
-
-fn run_under(edition: u16, state: State, bits: &[u8]) -> Ran
-    ensures { result ≡ run_under edition state bits.now }
-{
-    match record::edition_of(edition) {
-        Named::Given(edition) => receiver::run(edition, state, bits),
-        Named::Refused(why) => refused_run(why, state),
-    }
-}
-
 // One bit into the lent state, changed where it stands.
 pub fn lw_feed(edition: u16, state: &mut State, bit: u8) -> Counts
     ensures { (result ≡ (fed_under edition state.old bit).counts) × (state.new ≡ (fed_under edition state.old bit).state) }
 {
-    let fed = feed_under(edition, *state, bit);
-    *state = fed.state;
-    fed.counts
+    let step = |edition, state| receiver::step(edition, state, bit);
+    under(edition, state, step)
 }
 
 // A run of bits into the lent state.
 pub fn lw_run(edition: u16, state: &mut State, bits: &[u8]) -> Counts
     ensures { (result ≡ (run_under edition state.old bits.now).counts) × (state.new ≡ (run_under edition state.old bits.now).state) }
 {
-    let ran = run_under(edition, *state, bits);
-    *state = ran.state;
-    ran.counts
+    let run = |edition, state| receiver::run(edition, state, bits);
+    under(edition, state, run)
 }
 
 // ---- with the waiting bits as one number
@@ -76,45 +70,18 @@ pub fn lw_fresh_packed() -> PackedState
     receiver::fresh_packed()
 }
 
-fn refused_packed(why: Refusal, state: PackedState) -> PackedRan
-    ensures { result ≡ refused_packed (number_of why) state }
-{
-    let counts = receiver::refused(why);
-    PackedRan { counts, state }
-}
-
-fn feed_packed_under(edition: u16, state: PackedState, bit: u8) -> PackedRan
-    ensures { result ≡ fed_packed_under edition state bit }
-{
-    match record::edition_of(edition) {
-        Named::Given(edition) => receiver::step_packed(edition, state, bit),
-        Named::Refused(why) => refused_packed(why, state),
-    }
-}
-
-fn run_packed_under(edition: u16, state: PackedState, bits: &[u8]) -> PackedRan
-    ensures { result ≡ run_packed_under edition state bits.now }
-{
-    match record::edition_of(edition) {
-        Named::Given(edition) => receiver::run_packed(edition, state, bits),
-        Named::Refused(why) => refused_packed(why, state),
-    }
-}
-
 pub fn lw_feed_packed(edition: u16, state: &mut PackedState, bit: u8) -> Counts
     ensures { (result ≡ (fed_packed_under edition state.old bit).counts) × (state.new ≡ (fed_packed_under edition state.old bit).state) }
 {
-    let fed = feed_packed_under(edition, *state, bit);
-    *state = fed.state;
-    fed.counts
+    let step_packed = |edition, state| receiver::step_packed(edition, state, bit);
+    under(edition, state, step_packed)
 }
 
 pub fn lw_run_packed(edition: u16, state: &mut PackedState, bits: &[u8]) -> Counts
     ensures { (result ≡ (run_packed_under edition state.old bits.now).counts) × (state.new ≡ (run_packed_under edition state.old bits.now).state) }
 {
-    let after = run_packed_under(edition, *state, bits);
-    *state = after.state;
-    after.counts
+    let run_packed = |edition, state| receiver::run_packed(edition, state, bits);
+    under(edition, state, run_packed)
 }
 
 // ---- with what is remembered of its history, and why a dial is blank
@@ -128,72 +95,58 @@ pub struct StandingAnswer {
     pub bit: u64,
 }
 
+impl From<Standing> for StandingAnswer {
+    ghost from_gives = { λ standing answer. answer ≡ told_face standing };
+
+    fn from(standing: Standing) -> StandingAnswer {
+        let (kind, bit) = match standing {
+            Standing::Confirmed => (1, 0),
+            Standing::LockLost(bit) => (2, bit),
+            Standing::NeverLocked => (3, 0),
+            Standing::BlockMissing(bit) => (4, bit),
+            Standing::NoUsableBlock => (5, 0),
+            Standing::NotNextMinute(bit) => (6, bit),
+            Standing::TooYoung => (7, 0),
+        };
+        StandingAnswer {
+            refusal: 0,
+            kind,
+            bit,
+        }
+    }
+}
+
 pub fn lw_watch_fresh() -> Watch
     ensures { result ≡ fresh_watch }
 {
     watch::fresh()
 }
 
-fn refused_watch(why: Refusal, watch: Watch) -> Watched
-    ensures { result ≡ refused_watch why watch }
-{
-    let counts = receiver::refused(why);
-    Watched { counts, watch }
-}
-
-fn watch_under(edition: u16, watch: Watch, bits: &[u8]) -> Watched
-    ensures { result ≡ watched_under edition watch bits.now }
-{
-    match record::edition_of(edition) {
-        Named::Given(edition) => watch::run(edition, watch, bits),
-        Named::Refused(why) => refused_watch(why, watch),
-    }
-}
-
 // A run of bits into the lent watch.
 pub fn lw_watch_run(edition: u16, watch: &mut Watch, bits: &[u8]) -> Counts
-    ensures { (result ≡ (watched_under edition watch.old bits.now).counts) × (watch.new ≡ (watched_under edition watch.old bits.now).watch) }
+    ensures { (result ≡ (watched_under edition watch.old bits.now).counts) × (watch.new ≡ (watched_under edition watch.old bits.now).state) }
 {
-    let watched = watch_under(edition, *watch, bits);
-    *watch = watched.watch;
-    watched.counts
+    let run = |edition, watch| watch::run(edition, watch, bits);
+    under(edition, watch, run)
 }
 
-fn told(kind: u8, bit: u64) -> StandingAnswer
-    ensures { result ≡ told_face kind bit }
+fn why_under(edition: u16, watch: Watch) -> Result<Standing, Refusal>
+    ensures { result ≡ why_under edition watch }
 {
-    StandingAnswer {
-        refusal: 0,
-        kind,
-        bit,
-    }
-}
-
-fn standing_answer(standing: Standing) -> StandingAnswer
-    ensures { result ≡ standing_face standing }
-{
-    match standing {
-        Standing::Confirmed => told(1, 0),
-        Standing::LockLost(bit) => told(2, bit),
-        Standing::NeverLocked => told(3, 0),
-        Standing::BlockMissing(bit) => told(4, bit),
-        Standing::NoUsableBlock => told(5, 0),
-        Standing::NotNextMinute(bit) => told(6, bit),
-        Standing::TooYoung => told(7, 0),
-        Standing::Refused(why) => StandingAnswer {
-            refusal: refusal::number(why),
-            kind: 0,
-            bit: 0,
-        },
-    }
+    let edition = Edition::try_from(edition)?;
+    watch::why(edition, watch)
 }
 
 // Why a dial is blank: how the time of this watch stands.
 pub fn lw_why(edition: u16, watch: Watch) -> StandingAnswer
     ensures { result ≡ standing_face (why_under edition watch) }
 {
-    match record::edition_of(edition) {
-        Named::Given(edition) => standing_answer(watch::why(edition, watch)),
-        Named::Refused(why) => standing_answer(Standing::Refused(why)),
+    match why_under(edition, watch) {
+        Ok(standing) => StandingAnswer::from(standing),
+        Err(why) => StandingAnswer {
+            refusal: u8::from(why),
+            kind: 0,
+            bit: 0,
+        },
     }
 }

@@ -63,7 +63,7 @@ pub extern "C" fn lw_watch_fresh() -> Watch
 
 #[unsafe(no_mangle)]
 pub extern "C" fn lw_watch_run(edition: u16, watch: &mut Watch, bits: &[u8]) -> Counts
-    ensures { (result ≡ (watched_under edition watch.old bits.now).counts) × (watch.new ≡ (watched_under edition watch.old bits.now).watch) }
+    ensures { (result ≡ (watched_under edition watch.old bits.now).counts) × (watch.new ≡ (watched_under edition watch.old bits.now).state) }
 {
     face_receiver::lw_watch_run(edition, watch, bits)
 }
