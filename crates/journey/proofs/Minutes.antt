@@ -9,19 +9,18 @@ use mathlib.Core.List.{List, [], ◌∷◌, ◌++◌, append-nil, flatten}
 use borrow.Author.Tests.{eq-eqb, ne_eqb}
 use lib.Dec.{eqb}
 use lib.ListN.{length}
+use Rattle.std.proofs.Common.{Result, Ok, Err, is_ok}
 use Rattle.block.specs.Bits.{zeros}
 use Rattle.block.specs.Block.{Good}
 use Rattle.block.specs.Read.{read_of}
 use Rattle.block.proofs.RoundTrip.{written_good, read_back}
 use Rattle.record.specs.declared.Edition.{Edition}
 use Rattle.record.specs.declared.Record.{Record}
-use Rattle.record.specs.declared.Recorded.{Recorded}
-use Rattle.record.specs.declared.Recorded.TheVariants.{Given, Refused}
+use Rattle.refusal.specs.declared.Refusal.{Refusal}
 use Rattle.record.specs.Fields.{word_of}
 use Rattle.calendar.specs.MinutesLater.{minutes_later}
 use Rattle.calendar.proofs.Answers.{Usable}
 use Rattle.timekeeping.specs.declared.Time.{Time}
-use Rattle.timekeeping.specs.Proper.{is_given}
 use Rattle.timekeeping.specs.Times.{none, candidate, confirmed, time_of, usable_in, same_minute, follows, renewed_by, aged_by, offered_to}
 use Rattle.timekeeping.proofs.WholeMinutes.{confirms_exactly}
 use Rattle.locking.specs.declared.Blocks.{Blocks}
@@ -43,21 +42,21 @@ same n = eq-eqb n n refl
 module _ (edition : Edition) where
   -- ---- what a block does to the time
 
-  pub from_none : (t : Time) (r : Record) → t.kind ≡ none → offered_to edition t (Given r) ≡ time_of candidate r 0
+  pub from_none : (t : Time) (r : Record) → t.kind ≡ none → offered_to edition t (Ok r) ≡ time_of candidate r 0
   unfolding offered_to renewed_by
   from_none t r e = rw e
 
-  pub unusable_ages : (t : Time) (u : Recorded) → is_given u ≡ false → offered_to edition t u ≡ aged_by t
+  pub unusable_ages : (t : Time) (u : Result Record Refusal) → is_ok u ≡ false → offered_to edition t u ≡ aged_by t
   unfolding offered_to
-  unusable_ages t (Given n) e = cc
-  unusable_ages t (Refused why) e = refl
+  unusable_ages t (Ok n) e = cc
+  unusable_ages t (Err why) e = refl
 
-  pub is_later : (minutes : ℕ) (r n : Record) → minutes_later edition minutes r ≡ Given n → follows edition minutes r n ≡ true
+  pub is_later : (minutes : ℕ) (r n : Record) → minutes_later edition minutes r ≡ Ok n → follows edition minutes r n ≡ true
   unfolding follows same_minute
   is_later minutes r n e = rw e (simp same)
 
   pub later_confirms : (minutes kind age : ℕ) (r n : Record) → 1 ≤ minutes → minutes ≤ 4 → candidate ≤ kind → age + 1 ≡ 30 * minutes
-      → follows edition minutes r n ≡ true → offered_to edition (time_of kind r age) (Given n) ≡ time_of confirmed n 0
+      → follows edition minutes r n ≡ true → offered_to edition (time_of kind r age) (Ok n) ≡ time_of confirmed n 0
   unfolding offered_to renewed_by
   later_confirms minutes kind age r n from to held whole later =
       rw (
@@ -70,7 +69,7 @@ module _ (edition : Edition) where
   -- it is good, and its record is offered
   time_feeds : (r : Record) (bits rest : List ℕ) (blocks : Blocks) (l : Lock) → Usable edition r → length bits ≡ 50 → l.mode ≡ locked
       → run_from edition (time_block r ++ rest) blocks 0 (state_of l 0 bits)
-      ≡ run_from edition rest (plus blocks (count_read (read_of (time_block r)))) 0 (nothing_waits (lock_of locked 0 0 (offered_to edition l.time (Given r))))
+      ≡ run_from edition rest (plus blocks (count_read (read_of (time_block r)))) 0 (nothing_waits (lock_of locked 0 0 (offered_to edition l.time (Ok r))))
   time_feeds r bits rest blocks l u places m =
       let w : List ℕ = time_block r in
       let g : Good w = written_good 0 (word_of r) in
@@ -109,7 +108,7 @@ module _ (edition : Edition) where
 
   module _ (kind : ℕ) (held : candidate ≤ kind) (r : Record) where
     -- the block of as many minutes later as went by leaves its record confirmed
-    pub last_block : (minutes bad age : ℕ) (n : Record) (blocks : Blocks) → 1 ≤ minutes → minutes ≤ 4 → age + 1 ≡ 30 * minutes → Usable edition n → minutes_later edition minutes r ≡ Given n
+    pub last_block : (minutes bad age : ℕ) (n : Record) (blocks : Blocks) → 1 ≤ minutes → minutes ≤ 4 → age + 1 ≡ 30 * minutes → Usable edition n → minutes_later edition minutes r ≡ Ok n
         → run_from edition (flatten (time_block n ∷ [])) blocks 0 (holding bad kind r age) ≡ ended 0 (plus blocks (count_read (read_of (time_block n)))) 0 (holding 0 confirmed n 0)
     unfolding flatten run_from
     last_block minutes bad age n blocks from to whole u e =

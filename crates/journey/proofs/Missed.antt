@@ -8,17 +8,17 @@ use mathlib.Core.Bool.{Bool, true, false}
 use mathlib.Core.List.{List, [], ◌∷◌, ◌++◌, append_assoc, append-nil}
 use lib.Dec.{eqb}
 use lib.ListN.{length, length-append}
+use Rattle.std.proofs.Common.{Result, Ok, Err, is_ok}
 use Rattle.block.specs.Bits.{xors}
 use Rattle.block.specs.Block.{prefix_in}
 use Rattle.block.specs.Read.{read_of, refusal_in}
-use Rattle.block.specs.declared.Read.{Read}
-use Rattle.block.specs.declared.Read.TheVariants.{Block, Refused}
+use Rattle.block.specs.declared.Body.{Body}
+use Rattle.block.specs.declared.Refused.{Refused}
 use Rattle.block.proofs.Strings.{length_xors, bits_xors}
 use Rattle.detection.specs.Damage.{refused_with}
 use Rattle.detection.proofs.Damage.{damage_refused}
 use Rattle.detection.proofs.Refusal.{refused_not_zero}
 use Rattle.record.specs.declared.Edition.{Edition}
-use Rattle.timekeeping.specs.Proper.{is_given}
 use Rattle.timekeeping.specs.Times.{usable_in}
 use Rattle.locking.specs.Modes.{is_good}
 use Rattle.journey.specs.Journey.{Other, Each, bad_run, LockHolds, Quiet, Missed, heard, DamagedIsOther}
@@ -26,13 +26,13 @@ use Rattle.journey.specs.Journey.{Other, Each, bad_run, LockHolds, Quiet, Missed
 -- ---- the lock
 
 -- a good block ends the run of bad ones
-pub good_ends : (bad : ℕ) (v : Read) → is_good v ≡ true → bad_run bad v ≡ 0
-good_ends bad (Block code word) e = refl
-good_ends bad (Refused why told) e = cc
+pub good_ends : (bad : ℕ) (v : Result Body Refused) → is_good v ≡ true → bad_run bad v ≡ 0
+good_ends bad (Ok body) e = refl
+good_ends bad (Err why) e = cc
 
-one_bad : (v : Read) → bad_run 0 v < 4
-one_bad (Block code word) = omega arith
-one_bad (Refused why told) = omega arith
+one_bad : (v : Result Body Refused) → bad_run 0 v < 4
+one_bad (Ok body) = omega arith
+one_bad (Err why) = omega arith
 
 -- so over some good blocks lock holds, whatever run of bad ones came before
 good_hold : (bad : ℕ) (ws rest : List (List ℕ)) → 0 < length ws → Each (λ w. is_good (read_of w) ≡ true) ws → LockHolds 0 rest → LockHolds bad (ws ++ rest)
@@ -66,10 +66,10 @@ module _ (edition : Edition) where
 
   -- ---- damage
 
-  refused : (prefix : Bool) (v : Read) → refusal_in v ≡ refused_with prefix → is_given (usable_in edition v) ≡ false
+  refused : (prefix : Bool) (v : Result Body Refused) → refusal_in v ≡ refused_with prefix → is_ok (usable_in edition v) ≡ false
   unfolding usable_in
-  refused prefix (Block code word) e = absurd (refused_not_zero prefix e)
-  refused prefix (Refused why told) e = refl
+  refused prefix (Ok body) e = absurd (refused_not_zero prefix e)
+  refused prefix (Err why) e = refl
 
 pub damaged_is_other : DamagedIsOther
 damaged_is_other edition s e g p d =

@@ -8,16 +8,16 @@ use mathlib.Core.Bool.{true, false}
 use mathlib.Core.List.{List}
 use borrow.Author.Tests.{le-leb}
 use lib.ListN.{replicate, length-replicate}
+use Rattle.std.proofs.Common.{is_ok}
 use Rattle.block.specs.Bits.{zeros}
 use Rattle.block.specs.Block.{Good, block_of}
-use Rattle.block.specs.Read.{read_of}
-use Rattle.block.specs.declared.Read.TheVariants.{Block}
+use Rattle.block.specs.Read.{carried, read_of}
 use Rattle.block.proofs.RoundTrip.{written_good, read_back}
 use Rattle.record.specs.declared.Edition.{Edition}
 use Rattle.record.specs.declared.Edition.TheVariants.{Of1984, Of1982}
 use Rattle.record.specs.Editions.{filler}
 use Rattle.record.proofs.OneOfThree.{filler_refused, sent_filler}
-use Rattle.timekeeping.specs.Proper.{is_given, is_zero_record, is_no_time, time_proper}
+use Rattle.timekeeping.specs.Proper.{is_zero_record, is_no_time, time_proper}
 use Rattle.timekeeping.specs.Times.{no_time, usable_in}
 use Rattle.locking.specs.Locks.{locked, lock_of, lock_proper}
 use Rattle.locking.specs.Modes.{is_good}
@@ -28,7 +28,7 @@ repeated : (P : List ℕ → Type 0) (n : ℕ) (w : List ℕ) → P w → Each P
 repeated P zero w p = tt
 repeated P (suc n) w p = (p, repeated P n w p)
 
-unusable : (edition : Edition) → is_given (usable_in edition (Block 0 (filler edition))) ≡ false
+unusable : (edition : Edition) → is_ok (usable_in edition (carried 0 (filler edition))) ≡ false
 unfolding usable_in
 unusable edition = rw (filler_refused edition (filler edition) (sent_filler edition))
 
@@ -44,7 +44,7 @@ module _ (edition : Edition) where
   abbrev sent : List ℕ
   sent = block_of 0 (filler edition)
 
-  filler_read : read_of sent ≡ Block 0 (filler edition)
+  filler_read : read_of sent ≡ carried 0 (filler edition)
   filler_read = read_back 0 (filler edition) (omega arith) (in_word edition)
 
   filler_other : Other edition sent

@@ -9,14 +9,13 @@ use mathlib.Core.Bool.{true}
 use mathlib.Core.List.{List, [], ◌∷◌, ◌++◌, append-nil, flatten}
 use borrow.Author.Tests.{ne_eqb, le-leb}
 use lib.ListN.{length, length-append}
+use Rattle.std.proofs.Common.{Ok}
 use Rattle.block.specs.Read.{read_of}
 use Rattle.block.proofs.RoundTrip.{written_good, read_back}
 use Rattle.record.specs.declared.Edition.{Edition}
 use Rattle.record.specs.declared.Record.{Record}
-use Rattle.record.specs.declared.Recorded.TheVariants.{Given}
 use Rattle.record.specs.Fields.{word_of}
 use Rattle.calendar.specs.declared.Date.{Date}
-use Rattle.calendar.specs.declared.Dated.TheVariants as dated
 use Rattle.calendar.specs.Years.{span}
 use Rattle.calendar.specs.Dates.{date_of, coded_year}
 use Rattle.calendar.specs.MinutesLater.{minutes_later, minutes_later_of_date}
@@ -87,7 +86,7 @@ module _ (edition : Edition) where
     still_held : (n : ℕ) → n < 120 → aged_all (time_of kind r 0) n ≡ time_of kind r n
     still_held n h = rw (zero-add n) at (grows_older kind held r 0 n (omega arith))
 
-    module _ (minutes : ℕ) (from : 1 ≤ minutes) (to : minutes ≤ 4) (n : Record) (e : minutes_later edition minutes r ≡ Given n) (v : Usable edition n) where
+    module _ (minutes : ℕ) (from : 1 ≤ minutes) (to : minutes ≤ 4) (n : Record) (e : minutes_later edition minutes r ≡ Ok n) (v : Usable edition n) where
       confirms : (others : List (List ℕ)) → length others + 1 ≡ 30 * minutes → Each (Other edition) others → LockHolds 0 others
           → Leads edition (holding 0 kind r 0) (others ++ time_block n ∷ []) (holding 0 confirmed n 0)
       unfolding flatten
@@ -109,8 +108,8 @@ module _ (edition : Edition) where
 
   -- ---- the dates
 
-  module _ (d : Date) (r : Record) (first : ℕ) (w : Writable edition d r first) (minutes : ℕ) (n : Record) (e : minutes_later edition minutes r ≡ Given n) where
-    dates_on : coded_year (minutes_later_of_date minutes d) < first + span → date_of edition n first ≡ dated.Given (minutes_later_of_date minutes d)
+  module _ (d : Date) (r : Record) (first : ℕ) (w : Writable edition d r first) (minutes : ℕ) (n : Record) (e : minutes_later edition minutes r ≡ Ok n) where
+    dates_on : coded_year (minutes_later_of_date minutes d) < first + span → date_of edition n first ≡ Ok (minutes_later_of_date minutes d)
     dates_on h =
         date_back edition (minutes_later_of_date minutes d) n first
         (sym (later_of_date edition minutes d r w.is_recorded (omega (arith, w.to_last))) ∙ e)

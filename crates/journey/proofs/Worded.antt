@@ -4,12 +4,11 @@ use Prim.Native.Nat.{◌^◌, ◌<◌}
 use native.Mathlib.Omega.{arith}
 use mathlib.Core.Path.{◌≡◌}
 use mathlib.Core.Bool.{true}
+use Rattle.std.proofs.Common.{Ok}
 use Rattle.block.specs.Read.{read_of}
 use Rattle.block.proofs.RoundTrip.{read_back}
 use Rattle.record.specs.declared.Edition.{Edition}
 use Rattle.record.specs.declared.Record.{Record}
-use Rattle.record.specs.declared.Recorded.TheVariants as recorded
-use Rattle.record.specs.declared.Worded.TheVariants as worded
 use Rattle.record.specs.Fields.{word_of}
 use Rattle.record.specs.Ranges.{in_range}
 use Rattle.record.specs.Words.{written_of}
@@ -24,7 +23,7 @@ use Rattle.timekeeping.specs.Times.{usable_in}
 use Rattle.journey.specs.Journey.{time_block}
 
 module _ (r : Record) (h : in_range r ≡ true) where
-  pub has_word : written_of r ≡ worded.Given (word_of r)
+  pub has_word : written_of r ≡ Ok (word_of r)
   unfolding written_of
   has_word = rw h
 
@@ -33,10 +32,10 @@ module _ (r : Record) (h : in_range r ≡ true) where
   word_fits = let b : Bounds r = bounds r h in omega (arith, six_fits r.offset b.time.offset_in)
 
 module _ (edition : Edition) where
-  pub date_usable : (d : Date) (r : Record) → record_of edition d ≡ recorded.Given r → Usable edition r
+  pub date_usable : (d : Date) (r : Record) → record_of edition d ≡ Ok r → Usable edition r
   date_usable d r e = let g = record_given edition d r e in rw g.1 at (recorded_usable edition d g.0)
 
-  pub block_usable : (r : Record) → Usable edition r → usable_in edition (read_of (time_block r)) ≡ recorded.Given r
+  pub block_usable : (r : Record) → Usable edition r → usable_in edition (read_of (time_block r)) ≡ Ok r
   unfolding usable_in
   block_usable r u =
       let h = u.in_range in

@@ -3,26 +3,22 @@
 -- whatever was missed in between while lock held, and the date is that many minutes later (01, "The calendar" and "Hunting, trying,
 -- locked"; 02, No. 2, No. 3 and No. 5).
 -- Assumes nothing.
-use Rattle.std.specs.Prelude.{ℕ, ◌+◌, ◌*◌, ◌≤◌, ◌<◌, ◌≡◌, true, false, length}
+use Rattle.std.specs.Prelude.{ℕ, ◌+◌, ◌*◌, ◌≤◌, ◌<◌, ◌≡◌, true, false, length, Result, Ok, Err, is_ok}
 use mathlib.Core.List.{List, [], ◌∷◌, ◌++◌, flatten}
 use Rattle.block.specs.Bits.{Bits, xors}
 use Rattle.block.specs.Block.{Good, block_of}
 use Rattle.block.specs.Read.{read_of}
-use Rattle.block.specs.declared.Read.{Read}
-use Rattle.block.specs.declared.Read.TheVariants.{Block, Refused}
+use Rattle.block.specs.declared.Body.{Body}
+use Rattle.block.specs.declared.Refused.{Refused}
 use Rattle.detection.specs.Damage.{Pattern, Damage}
 use Rattle.record.specs.declared.Edition.{Edition}
 use Rattle.record.specs.declared.Record.{Record}
-use Rattle.record.specs.declared.Recorded.TheVariants as recorded
-use Rattle.record.specs.declared.Worded.TheVariants as worded
 use Rattle.record.specs.Fields.{word_of}
 use Rattle.record.specs.Words.{written_of}
 use Rattle.calendar.specs.declared.Date.{Date}
-use Rattle.calendar.specs.declared.Dated.TheVariants as dated
 use Rattle.calendar.specs.Years.{first_year_of_span, last_first_year, span}
 use Rattle.calendar.specs.Dates.{date_of, coded_year, record_of}
 use Rattle.calendar.specs.MinutesLater.{minutes_later, minutes_later_of_date}
-use Rattle.timekeeping.specs.Proper.{is_given}
 use Rattle.timekeeping.specs.Times.{none, candidate, confirmed, time_of, no_time, usable_in}
 use Rattle.locking.specs.declared.Blocks.{Blocks}
 use Rattle.locking.specs.Locks.{locked, lock_of}
@@ -41,7 +37,7 @@ time_block r = block_of 0 (word_of r)
 pub record Other (edition : Edition) (w : List ℕ) : Type 0 where
   pub size : length w ≡ 50
   pub bits : Bits w
-  pub unusable : is_given (usable_in edition (read_of w)) ≡ false
+  pub unusable : is_ok (usable_in edition (read_of w)) ≡ false
 
 -- what is asked holds of each of some blocks
 abbrev pub Each : (List ℕ → Type 0) → List (List ℕ) → Type 0
@@ -49,9 +45,9 @@ Each P [] = Unit {0}
 Each P (w ∷ ws) = P w × Each P ws
 
 -- the run of bad blocks after one more block, and after some
-abbrev pub bad_run : ℕ → Read → ℕ
-bad_run bad (Block code word) = 0
-bad_run bad (Refused why told) = bad + 1
+abbrev pub bad_run : ℕ → Result Body Refused → ℕ
+bad_run bad (Ok body) = 0
+bad_run bad (Err why) = bad + 1
 
 abbrev pub bad_run_after : ℕ → List (List ℕ) → ℕ
 bad_run_after bad [] = bad
@@ -63,9 +59,9 @@ LockHolds bad [] = Unit {0}
 LockHolds bad (w ∷ ws) = (bad_run bad (read_of w) < 4) × LockHolds (bad_run bad (read_of w)) ws
 
 -- what blocks count, each by what it reads as
-abbrev pub count_read : Read → Blocks
-count_read (Block code word) = blocks_of 1 0 0
-count_read (Refused why told) = blocks_of 0 1 told
+abbrev pub count_read : Result Body Refused → Blocks
+count_read (Ok body) = blocks_of 1 0 0
+count_read (Err why) = blocks_of 0 1 why.remainder
 
 abbrev pub count_blocks : List (List ℕ) → Blocks
 count_blocks [] = no_blocks
@@ -118,7 +114,7 @@ Leads edition s blocks t = run_of edition s (flatten blocks) ≡ ended 0 (count_
 
 -- a date that can be written, with its record, and a first year whose 28 years hold its coded year
 pub record Writable (edition : Edition) (d : Date) (r : Record) (first : ℕ) : Type 0 where
-  pub is_recorded : record_of edition d ≡ recorded.Given r
+  pub is_recorded : record_of edition d ≡ Ok r
   pub from_first : first_year_of_span ≤ first
   pub to_last : first ≤ last_first_year
   pub begun : first ≤ coded_year d
@@ -127,7 +123,7 @@ pub record Writable (edition : Edition) (d : Date) (r : Record) (first : ℕ) : 
 -- so many minutes after the record r of the date d, where n is the record then
 pub record MinutesOn (edition : Edition) (d : Date) (r : Record) (first minutes : ℕ) (n : Record) : Type 0 where
   -- the record has a word
-  pub has_word : written_of n ≡ worded.Given (word_of n)
+  pub has_word : written_of n ≡ Ok (word_of n)
   -- its block, thirty blocks a minute after that of r, leaves n confirmed at age 0, whatever the others were while lock held, and
   -- whether r was a candidate or confirmed
   pub confirms :
@@ -150,15 +146,15 @@ pub record MinutesOn (edition : Edition) (d : Date) (r : Record) (first minutes 
       Quiet edition before →
       Leads edition (holding 0 kind r 0) ((heard missed ++ before) ++ time_block n ∷ []) (holding 0 confirmed n 0)
   -- the held record's date is as many minutes later, where the year coded then is still in the 28, which end with 2099 at the latest
-  pub dates_on : coded_year (minutes_later_of_date minutes d) < first + span → date_of edition n first ≡ dated.Given (minutes_later_of_date minutes d)
+  pub dates_on : coded_year (minutes_later_of_date minutes d) < first + span → date_of edition n first ≡ Ok (minutes_later_of_date minutes d)
 
 pub record Journey (edition : Edition) (s : State) (d : Date) (r : Record) (first : ℕ) : Type 0 where
   -- the record has a word
-  pub has_word : written_of r ≡ worded.Given (word_of r)
+  pub has_word : written_of r ≡ Ok (word_of r)
   -- the fifty bits of its block count one good block and leave the record as a candidate at age 0
   pub arrives : run_of edition s (time_block r) ≡ ended 0 (blocks_of 1 0 0) 0 (holding 0 candidate r 0)
   -- the held record dates back to the date
-  pub dates_back : date_of edition r first ≡ dated.Given d
+  pub dates_back : date_of edition r first ≡ Ok d
   -- as a candidate or confirmed it is held over up to 119 others, while lock holds
   pub lasts :
       (kind : ℕ) →
@@ -180,7 +176,7 @@ pub record Journey (edition : Edition) (s : State) (d : Date) (r : Record) (firs
       LockHolds 0 others →
       Leads edition (holding 0 kind r 0) others (nothing_waits (lock_of locked 0 (bad_run_after 0 others) no_time))
   -- and it goes on for one to four minutes: there is a record then
-  pub goes_on : (minutes : ℕ) → 1 ≤ minutes → minutes ≤ 4 → (n : Record) × (minutes_later edition minutes r ≡ recorded.Given n) × MinutesOn edition d r first minutes n
+  pub goes_on : (minutes : ℕ) → 1 ≤ minutes → minutes ≤ 4 → (n : Record) × (minutes_later edition minutes r ≡ Ok n) × MinutesOn edition d r first minutes n
 
 -- for either edition, every date that can be written, every first year that holds it, and every receiver that is locked and idle
 abbrev pub EveryJourney : Type 0
