@@ -10,9 +10,11 @@ use borrow.Author.Tests.{eqb-true, eqb-false}
 use lib.Dec.{eqb, leb, ltb}
 use lib.ListN.{length, take, drop, length-append}
 use lib.Seq.{length-take-le, take-add, take_at}
+use Rattle.std.proofs.Common.{Result}
 use Rattle.block.specs.Bits.{zeros}
 use Rattle.block.specs.Read.{read_of}
-use Rattle.block.specs.declared.Read.{Read}
+use Rattle.block.specs.declared.Body.{Body}
+use Rattle.block.specs.declared.Refused.{Refused}
 use Rattle.record.specs.declared.Edition.{Edition}
 use Rattle.timekeeping.specs.Proper.{is_no_time, is_zero_record}
 use Rattle.timekeeping.proofs.Choices.{cond_elim}
@@ -57,7 +59,7 @@ module _ (edition : Edition) where
       ∙ ap (state_of (lock_in s) n) (sym (subst (λ (k : ℕ). s.bits ≡ p ++ drop n (zeros k)) places (idle_zeros n s.bits (bits_and_lock edition s proper).0)))
 
   -- a window that is not good leaves a lock that needs a block less
-  bad_needs : (l : Lock) (w : Read) → is_good w ≡ false → needs (judged_by edition l w).lock ≤ 300
+  bad_needs : (l : Lock) (w : Result Body Refused) → is_good w ≡ false → needs (judged_by edition l w).lock ≤ 300
   unfolding judged_by hunted tried held_on
   bad_needs l w e =
       let P : Judged → Type 0 = λ j. needs j.lock ≤ 300 in

@@ -10,9 +10,11 @@ use mathlib.Core.List.{List, ◌∷◌, ◌++◌}
 use mathlib.Core.Logic.{◌⊎◌, inl, inr}
 use lib.ListN.{length, get_or, take, drop, length-drop}
 use lib.Seq.{length-take-le, take-add, take-take, drop-cons, drop-drop}
+use Rattle.std.proofs.Common.{Result}
 use Rattle.block.specs.Bits.{zeros}
 use Rattle.block.specs.Read.{read_of}
-use Rattle.block.specs.declared.Read.{Read}
+use Rattle.block.specs.declared.Body.{Body}
+use Rattle.block.specs.declared.Refused.{Refused}
 use Rattle.detection.specs.Slips.{window}
 use Rattle.record.specs.declared.Edition.{Edition}
 use Rattle.record.proofs.Tests.{le_or_lt}
@@ -43,14 +45,14 @@ after_good (suc (suc zero)) = lock_of trying 2 0 no_time
 after_good (suc (suc (suc n))) = lock_of locked 0 0 no_time
 
 module _ (edition : Edition) where
-  good_counts : (g : ℕ) (w : Read) → g < 3 → is_good w ≡ true → (judged_by edition (after_good g) w).lock ≡ after_good (suc g)
+  good_counts : (g : ℕ) (w : Result Body Refused) → g < 3 → is_good w ≡ true → (judged_by edition (after_good g) w).lock ≡ after_good (suc g)
   unfolding judged_by hunted tried
   good_counts zero w h e = rw e
   good_counts (suc zero) w h e = rw e
   good_counts (suc (suc zero)) w h e = rw e
   good_counts (suc (suc (suc g))) w h e = absurd (omega arith)
 
-  stays_locked : (l : Lock) (w : Read) → l.mode ≡ locked → is_good w ≡ true → (judged_by edition l w).lock.mode ≡ locked
+  stays_locked : (l : Lock) (w : Result Body Refused) → l.mode ≡ locked → is_good w ≡ true → (judged_by edition l w).lock.mode ≡ locked
   unfolding held_on
   stays_locked l w m e = rw (held_judged edition l w m, e)
 

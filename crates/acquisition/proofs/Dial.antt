@@ -9,12 +9,12 @@ use mathlib.Core.Logic.{⊎_elim}
 use mathlib.Core.Path.{◌≡◌, refl, sym, ap, ◌∙◌}
 use lib.ListN.{length, take, length-take}
 use lib.Seq.{take-append-add}
+use Rattle.std.proofs.Common.{Result, Ok, Err}
 use Rattle.block.specs.Read.{read_of}
-use Rattle.block.specs.declared.Read.{Read}
-use Rattle.block.specs.declared.Read.TheVariants.{Block, Refused}
+use Rattle.block.specs.declared.Body.{Body}
+use Rattle.block.specs.declared.Refused.{Refused}
 use Rattle.record.specs.declared.Edition.{Edition}
 use Rattle.record.specs.declared.Record.{Record}
-use Rattle.record.specs.declared.Recorded.TheVariants.{Given}
 use Rattle.record.proofs.Tests.{le_or_lt}
 use Rattle.timekeeping.specs.declared.Time.{Time}
 use Rattle.timekeeping.specs.Times.{none, candidate, confirmed, time_of, no_time, usable_in, aged_by, offered_to}
@@ -36,10 +36,10 @@ use Rattle.acquisition.specs.Dial.{Feed, bits_of_feed, confirmed_after, Confirme
 use Rattle.acquisition.proofs.Fed.{few, on}
 use Rattle.acquisition.proofs.Joined.{good_window}
 
-usable_good : (edition : Edition) (w : Read) (r : Record) → usable_in edition w ≡ Given r → is_good w ≡ true
+usable_good : (edition : Edition) (w : Result Body Refused) (r : Record) → usable_in edition w ≡ Ok r → is_good w ≡ true
 unfolding usable_in
-usable_good edition (Block code word) r e = refl
-usable_good edition (Refused why told) r e = cc
+usable_good edition (Ok body) r e = refl
+usable_good edition (Err why) r e = cc
 
 module _ (edition : Edition) where
   -- the state after the first n bits, from a lock with which nothing waits
@@ -59,8 +59,8 @@ module _ (edition : Edition) where
       ∙ ap (λ (j : Judged). after_from edition (nothing_waits j.lock) (take n rest)) (held_judged edition l (read_of w) m ∙ held edition l (read_of w) h)
 
   -- a usable time block
-  time_past : (l : Lock) (w rest : List ℕ) (n : ℕ) (r : Record) → l.mode ≡ locked → usable_in edition (read_of w) ≡ Given r
-      → state_after l (w ++ rest) (50 + n) ≡ state_after (lock_of locked 0 0 (offered_to edition l.time (Given r))) rest n
+  time_past : (l : Lock) (w rest : List ℕ) (n : ℕ) (r : Record) → l.mode ≡ locked → usable_in edition (read_of w) ≡ Ok r
+      → state_after l (w ++ rest) (50 + n) ≡ state_after (lock_of locked 0 0 (offered_to edition l.time (Ok r))) rest n
   time_past l w rest n r m e =
       let g : is_good (read_of w) ≡ true = usable_good edition (read_of w) r e in
       let b : bad_run l.bad (read_of w) ≡ 0 = good_ends l.bad (read_of w) g in

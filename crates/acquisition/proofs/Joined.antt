@@ -13,12 +13,13 @@ use lib.Dec.{T, T_not, leb, ltb}
 use lib.ListN.{length, take, drop, length-append, length-drop, length-take, take-append-drop}
 use lib.Pow.{pow_mono}
 use lib.Seq.{length-take-le, take-append_seam, take-append-le, take-append-add, drop-append-le, drop-nil}
+use Rattle.std.proofs.Common.{Result, Ok, Err}
 use Rattle.block.specs.Bits.{Bits, zeros, value}
 use Rattle.block.specs.Block.{Good, block_of}
 use Rattle.block.specs.Division.{remainder_from, remainder}
 use Rattle.block.specs.Read.{read_of}
-use Rattle.block.specs.declared.Read.{Read}
-use Rattle.block.specs.declared.Read.TheVariants.{Block, Refused}
+use Rattle.block.specs.declared.Body.{Body}
+use Rattle.block.specs.declared.Refused.{Refused}
 use Rattle.block.proofs.Below.{below, at_below}
 use Rattle.block.proofs.CheckWord.{good_rem}
 use Rattle.block.proofs.RoundTrip.{written_good}
@@ -149,9 +150,9 @@ not_joined b p (x₀ ∷ x) y (suc j) gx gy more few g =
 pub good_window : (w : List ℕ) → is_good (read_of w) ≡ true → Good w
 good_window w = by (read_of w) refl
   where
-    by : (v : Read) → read_of w ≡ v → is_good v ≡ true → Good w
-    by (Block code word) r g = subst Good (sym (taken w code word r).2) (written_good code word)
-    by (Refused why told) r g = absurd (not_true g)
+    by : (v : Result Body Refused) → read_of w ≡ v → is_good v ≡ true → Good w
+    by (Ok body) r g = subst Good (sym (taken w body.code body.word r).2) (written_good body.code body.word)
+    by (Err why) r g = absurd (not_true g)
 
 -- what is heard of the second block, and before it of the first
 two_heard : (x y rest : List ℕ) (left n : ℕ) → left ≤ 50 → length x ≡ 50 → n ≤ length y → take (50 - left + n) (drop left (x ++ (y ++ rest))) ≡ drop left x ++ take n y

@@ -10,6 +10,7 @@ use lib.Dec.{T}
 use lib.IntN.{pos}
 use lib.ListN.{length, replicate, take, drop, length-append, length-drop}
 use lib.Seq.{drop_at, drop-drop, take-add}
+use Rattle.std.proofs.Common.{Ok}
 use Rattle.block.specs.Bits.{bits_of, value_from}
 use Rattle.block.specs.Block.{body_of, block_of}
 use Rattle.block.specs.Division.{remainder_from}
@@ -21,7 +22,6 @@ use Rattle.detection.proofs.Seams.{joint, length_sent}
 use Rattle.record.specs.declared.Edition.{Edition}
 use Rattle.record.specs.declared.Edition.TheVariants.{Of1984, Of1982}
 use Rattle.record.specs.declared.Record.{Record}
-use Rattle.record.specs.declared.Recorded.TheVariants.{Given}
 use Rattle.record.specs.Editions.{filler}
 use Rattle.record.specs.Fields.{word_of}
 use Rattle.record.specs.Ranges.{offset_in_range, time_in_range, kind_in_range, day_in_range, in_range}
@@ -90,7 +90,7 @@ ladder edition messages left h far f long on-with =
 a_monday : Record
 a_monday = record { leap = 1; start_day = 1; week = 1; weekday = 1; hour = 0; minute = 0; offset = pos 0 }
 
-a_monday_lem : (edition : Edition) → usable_of edition a_monday ≡ Given a_monday
+a_monday_lem : (edition : Edition) → usable_of edition a_monday ≡ Ok a_monday
 unfolding a_monday offset_in_range time_in_range kind_in_range day_in_range in_range says_leap weeks_of usable_of
 a_monday_lem Of1984 = refl
 a_monday_lem Of1982 = refl
@@ -125,7 +125,7 @@ unfolding turned value_from remainder_from bits_of body_of block_of read_of
 none_turned Of1984 = tt
 none_turned Of1982 = tt
 
-module _ (edition : Edition) (u : Usable edition a_monday) (next : Record) (e : minutes_later edition 1 a_monday ≡ Given next) (v : Usable edition next) where
+module _ (edition : Edition) (u : Usable edition a_monday) (next : Record) (e : minutes_later edition 1 a_monday ≡ Ok next) (v : Usable edition next) where
   abbrev idle : List (List ℕ)
   idle = replicate 29 (fills edition)
 

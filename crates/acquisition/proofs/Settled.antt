@@ -11,8 +11,10 @@ use mathlib.Core.Logic.{⊎_elim}
 use borrow.Author.Tests.{lt-leb}
 use lib.Dec.{eqb}
 use lib.ListN.{length}
+use Rattle.std.proofs.Common.{Result}
 use Rattle.block.specs.Read.{read_of}
-use Rattle.block.specs.declared.Read.{Read}
+use Rattle.block.specs.declared.Body.{Body}
+use Rattle.block.specs.declared.Refused.{Refused}
 use Rattle.detection.specs.Slips.{window}
 use Rattle.record.specs.declared.Edition.{Edition}
 use Rattle.record.proofs.Tests.{le_or_lt}
@@ -45,15 +47,15 @@ tries_after (suc (suc (suc g))) a b = absurd (omega arith)
 module _ (edition : Edition) where
   -- ---- a window that is not good
 
-  tried_ends : (g : ℕ) (w : Read) → is_good w ≡ false → (judged_by edition (lock_of trying g 0 no_time) w).lock ≡ fresh_lock
+  tried_ends : (g : ℕ) (w : Result Body Refused) → is_good w ≡ false → (judged_by edition (lock_of trying g 0 no_time) w).lock ≡ fresh_lock
   unfolding judged_by tried
   tried_ends g w e = rw e
 
-  fourth_ends : (l : Lock) (w : Read) → l.mode ≡ locked → l.bad ≡ 3 → is_good w ≡ false → (judged_by edition l w).lock ≡ fresh_lock
+  fourth_ends : (l : Lock) (w : Result Body Refused) → l.mode ≡ locked → l.bad ≡ 3 → is_good w ≡ false → (judged_by edition l w).lock ≡ fresh_lock
   unfolding held_on
   fourth_ends l w m b e = rw (held_judged edition l w m, e, b)
 
-  bad_counts : (l : Lock) (w : Read) → l.mode ≡ locked → l.bad < 3 → is_good w ≡ false
+  bad_counts : (l : Lock) (w : Result Body Refused) → l.mode ≡ locked → l.bad < 3 → is_good w ≡ false
       → ((judged_by edition l w).lock.mode ≡ locked) × ((judged_by edition l w).lock.bad ≡ l.bad + 1)
   unfolding held_on
   bad_counts l w m b e = rw (held_judged edition l w m, e, lt-leb 4 (l.bad + 1) (omega arith)) (refl, refl)

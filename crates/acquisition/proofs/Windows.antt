@@ -10,10 +10,11 @@ use mathlib.Core.Path.{◌≡◌, refl, ap}
 use lib.Dec.{T, eqb}
 use lib.ListN.{length, take, length-append, length-drop}
 use lib.Seq.{drop-drop, take_at}
+use Rattle.std.proofs.Common.{Result, Ok, Err}
 use Rattle.block.specs.Block.{block_of, prefix_in}
 use Rattle.block.specs.Read.{read_of, refusal_in}
-use Rattle.block.specs.declared.Read.{Read}
-use Rattle.block.specs.declared.Read.TheVariants.{Block, Refused}
+use Rattle.block.specs.declared.Body.{Body}
+use Rattle.block.specs.declared.Refused.{Refused}
 use Rattle.block.proofs.RoundTrip.{written_good, read_back}
 use Rattle.detection.specs.Damage.{refused_with}
 use Rattle.detection.specs.Slips.{Message, sent, window, before, after}
@@ -48,9 +49,9 @@ whole (m ∷ messages) start e h =
     rw (z, take_at block (sent messages) 50 size, read_back m.code m.word m.code_fits m.word_fits))
     (le_or_lt 50 start)
 
-refused_not_good : (prefixWrong : Bool) (w : Read) → refusal_in w ≡ refused_with prefixWrong → is_good w ≡ false
-refused_not_good prefixWrong (Block code word) e = absurd (refused_not_zero prefixWrong e)
-refused_not_good prefixWrong (Refused why told) e = refl
+refused_not_good : (prefixWrong : Bool) (w : Result Body Refused) → refusal_in w ≡ refused_with prefixWrong → is_good w ≡ false
+refused_not_good prefixWrong (Ok body) e = absurd (refused_not_zero prefixWrong e)
+refused_not_good prefixWrong (Err why) e = refl
 
 module _ (messages : List Message) where
   -- a window near a start is not

@@ -1,12 +1,11 @@
 -- From lock to a dial that shows time, in a feed with a time block each minute, thirty blocks, that tells the next minute (02, No. 13).
 -- Assumes nothing.
-use Rattle.std.specs.Prelude.{ℕ, ◌+◌, ◌*◌, ◌≤◌, ◌<◌, true, ◌≡◌, length, take, drop}
+use Rattle.std.specs.Prelude.{ℕ, ◌+◌, ◌*◌, ◌≤◌, ◌<◌, true, ◌≡◌, length, take, drop, Ok}
 use mathlib.Core.List.{List, ◌++◌, flatten}
 use Rattle.block.specs.Read.{read_of}
 use Rattle.detection.specs.Slips.{Message}
 use Rattle.record.specs.declared.Edition.{Edition}
 use Rattle.record.specs.declared.Record.{Record}
-use Rattle.record.specs.declared.Recorded.TheVariants.{Given}
 use Rattle.timekeeping.specs.Times.{confirmed, usable_in, follows}
 use Rattle.receiver.specs.declared.State.{State}
 use Rattle.receiver.specs.States.{fresh_of}
@@ -27,8 +26,8 @@ pub record Feed (edition : Edition) : Type 0 where
   pub next : Record
   pub few : length before < 30
   pub minute : length between ≡ 29
-  pub one_tells : usable_in edition (read_of one) ≡ Given told
-  pub two_tells : usable_in edition (read_of two) ≡ Given next
+  pub one_tells : usable_in edition (read_of one) ≡ Ok told
+  pub two_tells : usable_in edition (read_of two) ≡ Ok next
   pub later : follows edition 1 told next ≡ true
   pub others_before : Each (Other edition) before
   pub others_between : Each (Other edition) between
