@@ -3,7 +3,7 @@
 
 ghost use Rattle.std.specs.Prelude.{◌≡◌, length};
 ghost use Rattle.face_halves.specs.Face.{decided_face};
-ghost use Rattle.face_halves.specs.Under.{polarity_of, decided_under, written_under};
+ghost use Rattle.face_halves.specs.Under.{decided_under, written_under};
 
 use halves::{Decided, Polarity};
 use refusal::Refusal;
@@ -17,38 +17,37 @@ pub struct DecidedAnswer {
     pub bits: u64,
 }
 
-fn answer(decided: Decided) -> DecidedAnswer
-    ensures { result ≡ decided_face decided }
-{
-    match decided {
-        Decided::Bits { pairing, count } => DecidedAnswer {
-            refusal: 0,
-            pairing,
-            bits: count as u64,
-        },
-        Decided::Refused(why) => DecidedAnswer {
-            refusal: refusal::number(why),
-            pairing: 0,
-            bits: 0,
-        },
+impl From<Result<Decided, Refusal>> for DecidedAnswer {
+    ghost from_gives = { λ decided answer. answer ≡ decided_face decided };
+
+    fn from(decided: Result<Decided, Refusal>) -> DecidedAnswer {
+        match decided {
+            Ok(decided) => DecidedAnswer {
+                refusal: 0,
+                pairing: u8::from(decided.pairing),
+                bits: decided.count as u64,
+            },
+            Err(refusal) => DecidedAnswer {
+                refusal: u8::from(refusal),
+                pairing: 0,
+                bits: 0,
+            },
+        }
     }
 }
 
-// 0 is as it stands; another number exchanges.
-fn polarity_of(number: u8) -> Polarity
-    ensures { result ≡ polarity_of number }
+// Under the polarity that a number names, if it names one.
+fn decide(readings: &[f32], margin: f32, polarity: u8, bits: &mut [u8]) -> Result<Decided, Refusal>
+    ensures { (result ≡ decided_under polarity readings.now margin (length bits.old)) × (bits.new ≡ written_under polarity readings.now margin bits.old) }
 {
-    if number == 0 {
-        return Polarity::AsItStands;
+    if 1 < polarity {
+        return Err(Refusal::OutOfRange);
     }
-    Polarity::Exchanged
+    halves::decide(readings, margin, Polarity::from(polarity), bits)
 }
 
 pub fn lw_decide(readings: &[f32], margin: f32, polarity: u8, bits: &mut [u8]) -> DecidedAnswer
     ensures { (result ≡ decided_face (decided_under polarity readings.now margin (length bits.old))) × (bits.new ≡ written_under polarity readings.now margin bits.old) }
 {
-    if 1 < polarity {
-        return answer(Decided::Refused(Refusal::OutOfRange));
-    }
-    answer(halves::decide(readings, margin, polarity_of(polarity), bits))
+    DecidedAnswer::from(decide(readings, margin, polarity, bits))
 }

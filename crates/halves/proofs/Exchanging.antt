@@ -11,6 +11,7 @@ use lib.Dec.{eqb, ltb}
 use lib.Ieee.{Float, nan, inf, fin, up, down, below, level, lt, eq, le, neg, of_int}
 use lib.IntN.{ℤ}
 use lib.ListN.{length, get_or}
+use Rattle.std.proofs.lemmas.List.{get_or-map}
 use Rattle.halves.specs.Decision.{one, zero, unsure, doubtful, decision_of, bit_of, bits_of}
 use Rattle.halves.specs.Laws.{no_pair, PolarityExchanges, turned, other, HalvesExchange}
 use Rattle.halves.specs.Readings.{in_range}
@@ -24,9 +25,7 @@ use Rattle.halves.proofs.Rounding.{either_way}
 -- the bit at a place is that of the pair there
 bit_at : (polarity : Polarity) (margin : Float) (ps : List Pair) (k : ℕ) → k < length ps → get_or (bits_of polarity margin ps) k 0 ≡ bit_of polarity (decision_of margin (get_or ps k no_pair))
 unfolding bits_of
-bit_at polarity margin [] k h = absurd (omega arith)
-bit_at polarity margin (p ∷ ps) zero h = refl
-bit_at polarity margin (p ∷ ps) (suc k) h = bit_at polarity margin ps k (omega arith)
+bit_at polarity margin ps k h = get_or-map _ ps k no_pair 0 h
 
 unclear : (margin : Float) (p : Pair) (polarity : Polarity) → doubtful margin p ≡ true → bit_of polarity (decision_of margin p) ≡ 0
 unfolding decision_of

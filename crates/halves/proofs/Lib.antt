@@ -1,5 +1,5 @@
 pub mod Magnitude
-pub mod Pairing
+pub mod TwoByTwo
 pub mod Choosing
 pub mod Taking
 pub mod Rounding

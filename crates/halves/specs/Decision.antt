@@ -1,6 +1,6 @@
 -- What a pair says, and the bit that goes on (02, No. 1).
 -- Assumes nothing.
-use Rattle.std.specs.Prelude.{Bool, false, cond, ◌||◌, List, [], ◌∷◌, ℕ, Float}
+use Rattle.std.specs.Prelude.{Bool, false, cond, ◌||◌, List, ℕ, Float, map}
 use Rattle.std.specs.Float.{nan, inf, fin, binary32}
 use Rattle.std.specs.Float.Ieee.{sub, lt, eq}
 use Rattle.halves.specs.declared.Pair.{Pair}
@@ -33,5 +33,4 @@ bit_of Exchanged one = 0
 bit_of Exchanged zero = 1
 
 unfoldable pub bits_of : Polarity → Float → List Pair → List ℕ
-bits_of polarity margin [] = []
-bits_of polarity margin (p ∷ ps) = bit_of polarity (decision_of margin p) ∷ bits_of polarity margin ps
+bits_of polarity margin ps = map (λ p. bit_of polarity (decision_of margin p)) ps

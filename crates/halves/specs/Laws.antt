@@ -4,39 +4,43 @@ use Rattle.std.specs.Prelude.{Bool, true, false, cond, List, ◌≡◌, ℕ, ◌
 use Rattle.std.specs.Bool.{beq}
 use Rattle.std.specs.Float.{fin, binary32}
 use Rattle.std.specs.Float.Ieee.{up, down, round, sub, eq, le}
-use Rattle.halves.specs.Answer.{plan_of}
+use Rattle.halves.specs.Answer.{bits_under, plan_of}
 use Rattle.halves.specs.Decision.{Decision, one, zero, unsure, magnitude, doubtful, decision_of, bits_of}
-use Rattle.halves.specs.Pairs.{paired, opposite_under}
+use Rattle.halves.specs.Pairs.{start_of, paired, opposite_under}
 use Rattle.halves.specs.Readings.{degrees, in_range, all_in_range, is_margin}
-use Rattle.halves.specs.declared.Decided.TheVariants.{Bits}
 use Rattle.halves.specs.declared.Pair.{Pair}
+use Rattle.halves.specs.declared.Pairing.{Pairing}
+use Rattle.halves.specs.declared.Pairing.TheVariants.{FromFirst, FromSecond}
 use Rattle.halves.specs.declared.Polarity.{Polarity}
 use Rattle.halves.specs.declared.Polarity.TheVariants.{AsItStands, Exchanged}
 
 -- ---- when bits are given, and how many
 
+abbrev pub other_pairing : Pairing → Pairing
+other_pairing FromFirst = FromSecond
+other_pairing FromSecond = FromFirst
+
 -- every test passed: the pairing has more pairs of opposite sign than the other, and of n readings it leaves out none or one at either end
-pub record Taken (readings : List Float) (margin : Float) (room pairing count : ℕ) : Type 0 where
+pub record Taken (readings : List Float) (margin : Float) (room : ℕ) (pairing : Pairing) (count : ℕ) : Type 0 where
   pub enough : 64 ≤ length readings
   pub inside : all_in_range readings ≡ true
   pub fair : is_margin margin ≡ true
-  pub which : pairing ≤ 1
-  pub clear : opposite_under (1 - pairing) readings < opposite_under pairing readings
-  pub many : count ≡ (length readings - pairing) / 2
+  pub clear : opposite_under (other_pairing pairing) readings < opposite_under pairing readings
+  pub many : count ≡ (length readings - start_of pairing) / 2
   pub fit : count ≤ room
 
-pub record TakenWhere (readings : List Float) (margin : Float) (room pairing count : ℕ) : Type 0 where
-  pub then : plan_of readings margin room ≡ Bits pairing count → Taken readings margin room pairing count
-  pub only : Taken readings margin room pairing count → plan_of readings margin room ≡ Bits pairing count
+pub record TakenWhere (readings : List Float) (margin : Float) (room : ℕ) (pairing : Pairing) (count : ℕ) : Type 0 where
+  pub then : plan_of readings margin room ≡ bits_under pairing count → Taken readings margin room pairing count
+  pub only : Taken readings margin room pairing count → plan_of readings margin room ≡ bits_under pairing count
 
 abbrev pub TakenExactly : Type 0
-TakenExactly = (readings : List Float) (margin : Float) (room pairing count : ℕ) → TakenWhere readings margin room pairing count
+TakenExactly = (readings : List Float) (margin : Float) (room : ℕ) (pairing : Pairing) (count : ℕ) → TakenWhere readings margin room pairing count
 
 -- The two pairings are counted over 32 pairs and 31. So where every pair from the first reading on has opposite signs, as from a board that
 -- begins with a bit, that pairing has more, whatever the signs between the pairs.
 pub record Counted (readings : List Float) : Type 0 where
-  pub pairs : (pairing : ℕ) → pairing ≤ 1 → length (paired pairing (take 64 readings)) ≡ 32 - pairing
-  pub whole : opposite_under 0 readings ≡ 32 → opposite_under 1 readings < opposite_under 0 readings
+  pub pairs : (pairing : Pairing) → length (paired pairing (take 64 readings)) ≡ 32 - start_of pairing
+  pub whole : opposite_under FromFirst readings ≡ 32 → opposite_under FromSecond readings < opposite_under FromFirst readings
 
 abbrev pub PairsCounted : Type 0
 PairsCounted = (readings : List Float) → 64 ≤ length readings → Counted readings

@@ -4,12 +4,13 @@
 mod pairs;
 mod readings;
 
-ghost use Rattle.std.specs.Prelude.{◌++◌, ◌≡◌, ◌/◌, ◌<◌, ◌≤◌, length, set, drop};
+ghost use Rattle.std.specs.Prelude.{◌++◌, ◌≡◌, ◌/◌, ◌≤◌, length};
 ghost use Rattle.halves.specs.Answer.{room_for, chosen_of, plan_of, written_of};
 ghost use Rattle.halves.specs.Decision.{bits_of};
-ghost use Rattle.halves.specs.Pairs.{pairs_of};
+ghost use Rattle.halves.specs.Pairs.{start_of, pairs_of};
+ghost use Rattle.halves.specs.Polarities.{polarity_of};
 
-use pairs::{bit_of, count_opposite, pair_at};
+use pairs::count_opposite;
 use readings::{all_in_range, is_margin};
 use refusal::Refusal;
 
@@ -27,83 +28,109 @@ pub enum Polarity {
     Exchanged,
 }
 
-// The pairing, 0 where the pairs start with the first reading and 1 where with the second, and how many bits it gives.
-#[derive(Drop)]
-pub enum Decided {
-    Bits { pairing: u8, count: usize },
-    Refused(Refusal),
+// 0 is as it stands; another number exchanges. Who refuses numbers above 1 tests them first: with a `TryFrom` that refuses them the compiler asks
+// for the polarity again at each pair, and deciding is slower.
+impl From<u8> for Polarity {
+    ghost from_gives = { λ number polarity. polarity ≡ polarity_of number };
+
+    fn from(number: u8) -> Polarity {
+        if number == 0 {
+            Polarity::AsItStands
+        } else {
+            Polarity::Exchanged
+        }
+    }
+}
+
+// How many readings stand before the first pair.
+#[derive(Clone, Copy)]
+pub enum Pairing {
+    FromFirst = 0,
+    FromSecond = 1,
+}
+
+impl From<Pairing> for u8 {
+    ghost from_gives = { λ pairing start. start ≡ start_of pairing };
+
+    fn from(pairing: Pairing) -> u8 {
+        pairing as u8
+    }
+}
+
+// The pairing, and how many bits it gives.
+#[derive(Clone, Copy)]
+pub struct Decided {
+    pub pairing: Pairing,
+    pub count: usize,
 }
 
 // A pairing is taken where there is room for its bits.
-fn room_for(pairing: u8, count: usize, room: usize) -> Decided
+fn room_for(pairing: Pairing, count: usize, room: usize) -> Result<Decided, Refusal>
     ensures { result ≡ room_for room pairing count }
 {
     if room < count {
-        return Decided::Refused(Refusal::NoRoom);
+        return Err(Refusal::NoRoom);
     }
-    Decided::Bits { pairing, count }
+    Ok(Decided { pairing, count })
 }
 
 // The pairing with more pairs of opposite sign over the first 64 readings.
-fn choose(readings: &[f32], room: usize) -> Decided
+fn choose(readings: &[f32], room: usize) -> Result<Decided, Refusal>
     requires { 64 ≤ length readings.now }
     ensures { result ≡ chosen_of readings.now room }
 {
     let from_first = count_opposite(&readings[..64]);
     let from_second = count_opposite(&readings[1..64]);
     if from_second < from_first {
-        return room_for(0, readings.len() / 2, room);
+        return room_for(Pairing::FromFirst, readings.len() / 2, room);
     }
     if from_first < from_second {
-        return room_for(1, (readings.len() - 1) / 2, room);
+        return room_for(Pairing::FromSecond, (readings.len() - 1) / 2, room);
     }
-    Decided::Refused(Refusal::EqualPairings)
+    Err(Refusal::EqualPairings)
 }
 
 // What will be written, if anything: the tests in their order.
-fn plan(readings: &[f32], margin: f32, room: usize) -> Decided
+fn plan(readings: &[f32], margin: f32, room: usize) -> Result<Decided, Refusal>
     ensures { result ≡ plan_of readings.now margin room }
 {
     if readings.len() < 64 {
-        return Decided::Refused(Refusal::TooFewReadings);
+        return Err(Refusal::TooFewReadings);
     }
     if all_in_range(readings) & is_margin(margin) {
         return choose(readings, room);
     }
-    Decided::Refused(Refusal::OutOfDegrees)
+    Err(Refusal::OutOfDegrees)
 }
 
-// One bit to its place; every other byte stays.
-fn put(bits: &mut [u8], place: usize, bit: u8)
-    requires { place < length bits.old }
-    ensures { bits.new ≡ set bits.old place bit }
-{
-    bits[place] = bit;
-}
-
-// A bit for each pair, to the front.
+// A bit for each pair.
 fn write_bits(readings: &[f32], margin: f32, polarity: Polarity, bits: &mut [u8])
-    requires { length readings.now / 2 ≤ length bits.old }
-    ensures { bits.new ≡ bits_of polarity margin (pairs_of readings.now) ++ drop (length readings.now / 2) bits.old }
+    requires { length bits.old ≡ length readings.now / 2 }
+    ensures { bits.new ≡ bits_of polarity margin (pairs_of readings.now) }
 {
-    let count = readings.len() / 2;
-    let mut n: usize = 0;
-    while n < count {
-        put(bits, n, bit_of(pair_at(readings, n * 2), margin, polarity));
-        n += 1;
+    let (pairs, _) = readings.as_chunks::<2>();
+    // Of what a loop over `bits.iter_mut().zip(pairs)` writes nothing can be proved.
+    for (n, bit) in bits.iter_mut().enumerate() {
+        *bit = Pair::from(pairs[n]).bit(margin, polarity);
     }
 }
 
 // Readings in, bits out, to the front of the lent slice.
-pub fn decide(readings: &[f32], margin: f32, polarity: Polarity, bits: &mut [u8]) -> Decided
+pub fn decide(
+    readings: &[f32],
+    margin: f32,
+    polarity: Polarity,
+    bits: &mut [u8],
+) -> Result<Decided, Refusal>
     ensures { (result ≡ plan_of readings.now margin (length bits.old)) × (bits.new ≡ written_of readings.now margin polarity bits.old) }
 {
-    match plan(readings, margin, bits.len()) {
-        Decided::Bits { pairing, count } => {
-            let start = pairing as usize;
-            write_bits(&readings[start..], margin, polarity, bits);
-            Decided::Bits { pairing, count }
-        }
-        Decided::Refused(why) => Decided::Refused(why),
-    }
+    let decided = plan(readings, margin, bits.len())?;
+    let start = u8::from(decided.pairing) as usize;
+    write_bits(
+        &readings[start..],
+        margin,
+        polarity,
+        &mut bits[..decided.count],
+    );
+    Ok(decided)
 }

@@ -1,43 +1,59 @@
 // A pair of readings: its signs, and the bit that it says.
-ghost use Rattle.std.specs.Prelude.{cond, ◌≡◌, ◌+◌, ◌<◌, eqb, length};
+ghost use Rattle.std.specs.Prelude.{cond, ◌≡◌, eqb};
 ghost use Rattle.std.specs.Float.Ieee.{lt};
 ghost use Rattle.halves.specs.Decision.{magnitude, doubtful, decision_of, one, zero, bit_of};
-ghost use Rattle.halves.specs.Pairs.{pair_from, opposite, count_opposite};
+ghost use Rattle.halves.specs.Pairs.{pair_of, opposite, count_opposite};
 
 use crate::{Pair, Polarity};
 
-pub fn pair_at(readings: &[f32], at: usize) -> Pair
-    requires { at + 1 < length readings.now }
-    ensures { result ≡ pair_from readings.now at }
-{
-    Pair {
-        first: readings[at],
-        second: readings[at + 1],
+// Readings that follow each other.
+impl From<[f32; 2]> for Pair {
+    ghost from_gives = { λ readings pair. pair ≡ pair_of readings };
+
+    fn from(readings: [f32; 2]) -> Pair {
+        Pair {
+            first: readings[0],
+            second: readings[1],
+        }
     }
 }
 
-// Zero has no sign.
-fn is_opposite(pair: Pair) -> bool
-    ensures { result ≡ opposite pair }
-{
-    let falls = (0.0 < pair.first) & (pair.second < 0.0);
-    let rises = (pair.first < 0.0) & (0.0 < pair.second);
-    falls | rises
+impl Pair {
+    // Zero has no sign.
+    fn is_opposite(self) -> bool
+        ensures { result ≡ opposite self }
+    {
+        let falls = (0.0 < self.first) & (self.second < 0.0);
+        let rises = (self.first < 0.0) & (0.0 < self.second);
+        falls | rises
+    }
+
+    fn is_doubtful(self, margin: f32) -> bool
+        ensures { result ≡ doubtful margin self }
+    {
+        (self.first == self.second) | within(self.first - self.second, margin)
+    }
+
+    // A doubtful bit goes on as 0 under either polarity.
+    pub fn bit(self, margin: f32, polarity: Polarity) -> u8
+        ensures { result ≡ bit_of polarity (decision_of margin self) }
+    {
+        let doubtful = self.is_doubtful(margin);
+        let one = says_one(self.second < self.first, polarity);
+        if one & !doubtful { 1 } else { 0 }
+    }
 }
 
-// How many of the pairs that start with the first reading have opposite signs.
+// How many of the pairs that start with the first reading have opposite signs. Added up, since a `filter` asks a question of each pair that no
+// processor guesses: short readings then take several times as long.
 pub fn count_opposite(readings: &[f32]) -> usize
     ensures { result ≡ count_opposite readings.now }
 {
-    let mut counted: usize = 0;
-    let mut at: usize = 0;
-    while at + 1 < readings.len() {
-        if is_opposite(pair_at(readings, at)) {
-            counted += 1;
-        }
-        at += 2;
-    }
-    counted
+    let (pairs, _) = readings.as_chunks::<2>();
+    pairs
+        .iter()
+        .map(|pair| usize::from(Pair::from(*pair).is_opposite()))
+        .sum()
 }
 
 // Whether a difference is less than the margin, whichever its sign.
@@ -45,12 +61,6 @@ fn within(difference: f32, margin: f32) -> bool
     ensures { result ≡ lt (magnitude difference) margin }
 {
     (-margin < difference) & (difference < margin)
-}
-
-fn is_doubtful(pair: Pair, margin: f32) -> bool
-    ensures { result ≡ doubtful margin pair }
-{
-    (pair.first == pair.second) | within(pair.first - pair.second, margin)
 }
 
 // Whether a bit that is not doubtful is 1.
@@ -61,13 +71,4 @@ fn says_one(greater: bool, polarity: Polarity) -> bool
         Polarity::AsItStands => greater,
         Polarity::Exchanged => !greater,
     }
-}
-
-// A doubtful bit goes on as 0 under either polarity.
-pub fn bit_of(pair: Pair, margin: f32, polarity: Polarity) -> u8
-    ensures { result ≡ bit_of polarity (decision_of margin pair) }
-{
-    let doubtful = is_doubtful(pair, margin);
-    let one = says_one(pair.second < pair.first, polarity);
-    if one & !doubtful { 1 } else { 0 }
 }

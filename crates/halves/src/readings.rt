@@ -12,13 +12,9 @@ fn in_range(reading: f32) -> bool
 pub fn all_in_range(readings: &[f32]) -> bool
     ensures { result ≡ all_in_range readings.now }
 {
-    let mut fine = true;
-    let mut i: usize = 0;
-    while i < readings.len() {
-        fine = fine & in_range(readings[i]);
-        i += 1;
-    }
-    fine
+    readings
+        .iter()
+        .fold(true, |fine, reading| fine & in_range(*reading))
 }
 
 pub fn is_margin(margin: f32) -> bool

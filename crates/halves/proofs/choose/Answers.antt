@@ -8,11 +8,12 @@ use lib.Ieee.{Float}
 use lib.ListN.{take, drop}
 use lib.Seq.{length-take-le}
 use Rattle.halves.specs.Pairs.{count_opposite, opposite_under}
+use Rattle.halves.specs.declared.Pairing.TheVariants.{FromSecond}
 use Rattle.halves.proofs.Choosing.{without_first, more_from_first, more_from_second, as_many}
 use Rattle.halves.proofs.choose.Goals as goal
 
 -- the second count, of the readings without the first
-from_second : (readings : List Float) {second : ℕ} → second ≡ count_opposite (take 63 (drop 1 readings)) → second ≡ opposite_under 1 readings
+from_second : (readings : List Float) {second : ℕ} → second ≡ count_opposite (take 63 (drop 1 readings)) → second ≡ opposite_under FromSecond readings
 from_second readings d = d ∙ ap count_opposite (without_first readings)
 
 pub slice_bounds-count_opposite-end : goal.slice_bounds-count_opposite-end

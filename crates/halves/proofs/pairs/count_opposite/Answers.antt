@@ -1,42 +1,35 @@
--- `count_opposite` meets its contract. The loop's invariant: what was counted, with what is left to count, is the whole.
+-- `count_opposite` meets its contract: the chunks of two are the pairs, and there are fewer of them than a sum may reach.
 -- Assumes nothing.
-use mathlib.Core.Bool.{cond}
-use mathlib.Core.List.{List}
-use mathlib.Core.Path.{◌≡◌, ap, ◌∙◌}
-use Prim.Native.Nat.{ℕ, ◌+◌, ◌<◌}
-use native.Mathlib.Omega.{arith}
-use lib.Ieee.{Float}
-use lib.ListN.{length, drop}
-use Rattle.halves.specs.Pairs.{pairs_of, pair_from, opposite, opposite_in, count_opposite}
-use Rattle.halves.proofs.Pairing.{pair_and_rest, none_left}
+use Rattle.std.proofs.Common.{rules, tests, ◌≡◌, refl, ap, ◌∙◌, ℕ, ◌+◌, cond, map, List, [], ◌∷◌, arith}
+use Rattle.std.proofs.lemmas.Iterator.{YieldsList-from_slice, YieldsList-from_map}
+use Rattle.std.proofs.lemmas.Iterator.Consumers.{sum_by_from_yields_List, fits_by_from_yields_list}
+use Rattle.std.proofs.lemmas.List.Sums.{count_by-le-length}
+use Rattle.std.specs.Prelude.{Float, fold, count_by}
+use Rattle.halves.specs.Pairs.{opposite, pair_of, count_opposite}
+use Rattle.halves.proofs.TwoByTwo.{pairs_are}
 use Rattle.halves.proofs.pairs.count_opposite.Goals as goal
-use Rattle.halves.proofs.pairs.count_opposite.Goals.{then-is_opposite, else-is_opposite}
 
--- the pair at a place is counted where its signs are opposite
-one_more : (xs : List Float) (at n m : ℕ) {all : ℕ} → at + 1 < length xs → m ≡ n + cond (opposite (pair_from xs at)) 1 0
-    → n + opposite_in (pairs_of (drop at xs)) ≡ all → m + opposite_in (pairs_of (drop (at + 2) xs)) ≡ all
-unfolding opposite_in
-one_more xs at n m h e k = let f = ap opposite_in (pair_and_rest xs at h) in omega arith
+-- a chunk adds one where its signs are opposite
+abbrev adds : List Float → ℕ
+adds chunk = cond (opposite (pair_of chunk)) 1 0
 
-pub loop-at-init : goal.loop-at-init
-unfolding count_opposite
-loop-at-init c = (omega arith, omega arith, omega arith)
+counted : (n : ℕ) (chunks : List (List Float)) → fold (λ a chunk. a + adds chunk) n chunks ≡ fold (λ a p. a + cond (opposite p) 1 0) n (map pair_of chunks)
+counted n [] = refl
+counted n (chunk ∷ rest) = counted (n + adds chunk) rest
 
-pub loop-at-preserved : goal.loop-at-preserved
-loop-at-preserved c =
-    let lp = c.loop-at in
-    let readings = c.args.readings.now in
-    let found : c.is_opposite.result ≡ opposite (pair_from readings lp.at) = c.is_opposite.ensures ∙ ap opposite c.pair_at.ensures in
-    let on = one_more readings lp.at lp.counted c.if-is_opposite.counted (omega arith) in
-    elim c.if-is_opposite.branch [
-      | then-is_opposite w ↦ (on (rw (← found, w.if-is_opposite.true) w.counted-is) lp.invariant.0, omega arith, omega arith)
-      | else-is_opposite w ↦ (on (rw (← found, w.if-is_opposite.false) (omega (arith, w.counted-is))) lp.invariant.0, omega arith, omega arith)
-    ]
+pub sum-requires-clause-fits : goal.sum-requires-clause-fits
+sum-requires-clause-fits c =
+    let chunks = c.as_chunks.result.0.now in
+    fits_by_from_yields_list adds chunks c.map.result _
+    (YieldsList-from_map _ adds (YieldsList-from_slice chunks cc) c.map.ensures.closure (λ x r q k. search (rules, tests)))
+    (omega (arith, count_by-le-length (λ chunk. opposite (pair_of chunk)) chunks, c.iter.ensures.bound))
 
 pub returns : goal.returns
-unfolding opposite_in
+unfolding count_opposite
 returns c =
-    let lp = c.loop-at in
-    let readings = c.args.readings.now in
-    let none = ap opposite_in (none_left readings lp.at (omega arith)) in
-    omega (arith, lp.invariant.0, none)
+    let chunks = c.as_chunks.result.0.now in
+    sum_by_from_yields_List adds chunks c.map.result _ c.sum.ensures.ran
+    (YieldsList-from_map _ adds (YieldsList-from_slice chunks cc) c.map.ensures.closure (λ x r q k. search (rules, tests)))
+    ∙ counted 0 chunks
+    ∙ ap (λ (ps : List (List Float)). count_by opposite (map pair_of ps)) c.as_chunks.ensures.front
+    ∙ ap (count_by opposite) (pairs_are c.args.readings.now)

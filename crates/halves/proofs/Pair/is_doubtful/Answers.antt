@@ -1,7 +1,7 @@
--- `is_doubtful` meets its contract: it makes the two tests of the definition.
+-- `Pair::is_doubtful` meets its contract: it makes the two tests of the definition.
 -- Assumes nothing.
 use Rattle.halves.specs.Decision.{doubtful}
-use Rattle.halves.proofs.pairs.is_doubtful.Goals as goal
+use Rattle.halves.proofs.Pair.is_doubtful.Goals as goal
 
 pub returns : goal.returns
 unfolding doubtful

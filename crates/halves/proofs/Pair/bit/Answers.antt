@@ -1,4 +1,4 @@
--- `bit_of` meets its contract: the bit is 1 where it says so and is not doubtful.
+-- `Pair::bit` meets its contract: the bit is 1 where it says so and is not doubtful.
 -- Assumes nothing.
 use mathlib.Core.Bool.{Bool, true, false, not, cond, ◌&&◌}
 use mathlib.Core.Path.{◌≡◌, refl}
@@ -8,7 +8,7 @@ use Rattle.halves.specs.Decision.{doubtful, decision_of, one, zero, unsure, bit_
 use Rattle.halves.specs.declared.Pair.{Pair}
 use Rattle.halves.specs.declared.Polarity.{Polarity}
 use Rattle.halves.specs.declared.Polarity.TheVariants.{AsItStands, Exchanged}
-use Rattle.halves.proofs.pairs.bit_of.Goals as goal
+use Rattle.halves.proofs.Pair.bit.Goals as goal
 
 by_tests : (polarity : Polarity) (unclear greater : Bool)
     → cond (eqb (bit_of polarity (cond greater one zero)) 1 && not unclear) 1 0 ≡ bit_of polarity (cond unclear unsure (cond greater one zero))
@@ -30,8 +30,8 @@ tested margin p polarity test d e t = rw (← t, e, d) (by_tests polarity (doubt
 
 pub returns-then-one-doubtful : goal.returns-then-one-doubtful
 returns-then-one-doubtful c =
-    tested c.args.margin c.args.pair c.args.polarity true c.is_doubtful-doubtful.ensures c.says_one-one.ensures c.if-one-doubtful.true
+    tested c.args.margin c.args.self c.args.polarity true c.is_doubtful-doubtful.ensures c.says_one-one.ensures c.if-one-doubtful.true
 
 pub returns-else-one-doubtful : goal.returns-else-one-doubtful
 returns-else-one-doubtful c =
-    tested c.args.margin c.args.pair c.args.polarity false c.is_doubtful-doubtful.ensures c.says_one-one.ensures c.if-one-doubtful.false
+    tested c.args.margin c.args.self c.args.polarity false c.is_doubtful-doubtful.ensures c.says_one-one.ensures c.if-one-doubtful.false
