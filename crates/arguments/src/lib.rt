@@ -3,179 +3,104 @@
 
 ghost use Rattle.std.specs.Prelude.{◌≡◌};
 ghost use Rattle.arguments.specs.Editions.{edition_in};
-ghost use Rattle.arguments.specs.Numbers.{is_digit, number_of, Below};
-ghost use Rattle.arguments.specs.Times.{day_with, day_of, time_with, time_of, signed, offset_of};
+ghost use Rattle.arguments.specs.Numbers.{number_of};
+ghost use Rattle.arguments.specs.Times.{day_of, time_of, signed, offset_of};
 
-use record::Named;
+use record::Edition;
 use refusal::Refusal;
 
-// The number that digits write.
-#[derive(Drop)]
-pub enum Number {
-    Of(u32),
-    None,
-}
-
 // As it is written: that the calendar has it is not said.
-#[derive(Clone, Copy, Drop)]
-pub enum Day {
-    Of { year: u16, month: u8, day: u8 },
-    None,
+#[derive(Clone, Copy)]
+pub struct Day {
+    pub year: u16,
+    pub month: u8,
+    pub day: u8,
 }
 
 // As it is written: that it is before midnight is not said.
-#[derive(Clone, Copy, Drop)]
-pub enum Time {
-    Of { hour: u8, minute: u8 },
-    None,
-}
-
-// As it is written, in half hours.
-#[derive(Drop)]
-pub enum Offset {
-    Of(i8),
-    None,
-}
-
-fn is_digit(c: u8) -> bool
-    ensures { result ≡ is_digit c }
-{
-    if c < b'0' {
-        return false;
-    }
-    c <= b'9'
+#[derive(Clone, Copy)]
+pub struct Time {
+    pub hour: u8,
+    pub minute: u8,
 }
 
 // A number of up to seven digits; zeros before it count for nothing.
-pub fn number_of(text: &[u8]) -> Number
+pub fn number_of(text: &[u8]) -> Option<u32>
     ensures { result ≡ number_of text.now }
 {
-    let mut n: u32 = 0;
-    let mut i: usize = 0;
-    while i < text.len() {
-        let c = text[i];
-        if is_digit(c) {
-            if 999_999 < n {
-                return Number::None;
-            }
-            n = n * 10 + (c - b'0') as u32;
-            i += 1;
-        } else {
-            return Number::None;
-        }
+    if text.is_empty() {
+        return None;
     }
-    if i == 0 { Number::None } else { Number::Of(n) }
+    let mut n: u32 = 0;
+    for &c in text {
+        if !c.is_ascii_digit() || 999_999 < n {
+            return None;
+        }
+        n = n * 10 + (c - b'0') as u32;
+    }
+    Some(n)
 }
 
 // The edition whose year a text writes.
-pub fn edition_of(text: &[u8]) -> Named
+#[tactic(auto, unfolding(record::specs::Editions::edition_of))]
+pub fn edition_of(text: &[u8]) -> Result<Edition, Refusal>
     ensures { result ≡ edition_in text.now }
 {
-    let Number::Of(n) = number_of(text) else {
-        return Named::Refused(Refusal::OutOfRange);
-    };
-    if 65535 < n {
-        return Named::Refused(Refusal::OutOfRange);
-    }
-    let year = n as u16;
-    record::edition_of(year)
-}
-
-fn day_with(year: Number, month: Number, day: Number) -> Day
-    requires { Below 10000 year × Below 100 month × Below 100 day }
-    ensures { result ≡ day_with year month day }
-{
-    let Number::Of(y) = year else {
-        return Day::None;
-    };
-    let Number::Of(m) = month else {
-        return Day::None;
-    };
-    let Number::Of(d) = day else {
-        return Day::None;
-    };
-    Day::Of {
-        year: y as u16,
-        month: m as u8,
-        day: d as u8,
-    }
+    let n = number_of(text).ok_or(Refusal::OutOfRange)?;
+    let year = u16::try_from(n).map_err(|_| Refusal::OutOfRange)?;
+    Edition::try_from(year)
 }
 
 // A day as 1986-01-01.
-pub fn day_of(text: &[u8]) -> Day
+#[tactic(auto, unfolding(crate::specs::Times::day_of, crate::specs::Times::day_with, crate::specs::Times::number_at))]
+pub fn day_of(text: &[u8]) -> Option<Day>
     ensures { result ≡ day_of text.now }
 {
-    if text.len() != 10 {
-        return Day::None;
+    if text.len() != 10 || text[4] != b'-' || text[7] != b'-' {
+        return None;
     }
-    if text[4] != b'-' {
-        return Day::None;
-    }
-    if text[7] != b'-' {
-        return Day::None;
-    }
-    day_with(
-        number_of(&text[0..4]),
-        number_of(&text[5..7]),
-        number_of(&text[8..10]),
-    )
-}
-
-fn time_with(hour: Number, minute: Number) -> Time
-    requires { Below 100 hour × Below 100 minute }
-    ensures { result ≡ time_with hour minute }
-{
-    let Number::Of(h) = hour else {
-        return Time::None;
-    };
-    let Number::Of(m) = minute else {
-        return Time::None;
-    };
-    Time::Of {
-        hour: h as u8,
-        minute: m as u8,
-    }
+    let year = number_of(&text[0..4])?;
+    let month = number_of(&text[5..7])?;
+    let day = number_of(&text[8..10])?;
+    Some(Day {
+        year: year as u16,
+        month: month as u8,
+        day: day as u8,
+    })
 }
 
 // A time as 12:34.
-pub fn time_of(text: &[u8]) -> Time
+#[tactic(auto, unfolding(crate::specs::Times::time_of, crate::specs::Times::time_with, crate::specs::Times::number_at))]
+pub fn time_of(text: &[u8]) -> Option<Time>
     ensures { result ≡ time_of text.now }
 {
-    if text.len() != 5 {
-        return Time::None;
+    if text.len() != 5 || text[2] != b':' {
+        return None;
     }
-    if text[2] != b':' {
-        return Time::None;
-    }
-    time_with(number_of(&text[0..2]), number_of(&text[3..5]))
+    let hour = number_of(&text[0..2])?;
+    let minute = number_of(&text[3..5])?;
+    Some(Time {
+        hour: hour as u8,
+        minute: minute as u8,
+    })
 }
 
-fn half_hours(number: Number, minus: bool) -> Offset
-    ensures { result ≡ signed minus number }
+#[tactic(auto, unfolding(crate::specs::Times::signed))]
+fn half_hours(digits: &[u8], minus: bool) -> Option<i8>
+    ensures { result ≡ signed minus (number_of digits.now) }
 {
-    match number {
-        Number::Of(n) => {
-            if 127 < n {
-                return Offset::None;
-            }
-            if minus {
-                return Offset::Of(0 - n as i8);
-            }
-            Offset::Of(n as i8)
-        }
-        Number::None => Offset::None,
-    }
+    let n = number_of(digits)?;
+    let size = i8::try_from(n).ok()?;
+    Some(if minus { -size } else { size })
 }
 
 // Half hours with or without a minus.
-pub fn offset_of(text: &[u8]) -> Offset
+#[tactic(auto, unfolding(crate::specs::Times::offset_of))]
+pub fn offset_of(text: &[u8]) -> Option<i8>
     ensures { result ≡ offset_of text.now }
 {
-    if text.len() == 0 {
-        return Offset::None;
+    match text {
+        [b'-', digits @ ..] => half_hours(digits, true),
+        _ => half_hours(text, false),
     }
-    if text[0] == b'-' {
-        return half_hours(number_of(&text[1..]), true);
-    }
-    half_hours(number_of(text), false)
 }

@@ -1,16 +1,11 @@
 -- `number_of` meets its contract. The loop's invariant: the number so far, with what is left of the text behind it, is the text's number.
 -- Assumes nothing.
-use mathlib.Core.Bool.{true}
-use mathlib.Core.List.{List, ◌∷◌}
-use mathlib.Core.Path.{◌≡◌, refl, sym, ap, ◌∙◌}
-use Prim.Native.Nat.{ℕ, suc, ◌+◌, ◌-◌, ◌*◌, ◌<◌}
-use native.Mathlib.Numerals.{add-one}
-use native.Mathlib.Omega.{arith}
-use lib.ListN.{length, get_or, drop}
-use lib.Seq.{drop-cons, drop-length}
+use Rattle.std.proofs.Common.{arith, rules, ◌≡◌, ℕ, suc, ◌+◌, ◌-◌, ◌*◌, ◌<◌, List, ◌∷◌, true, false, length, get_or, drop, refl, sym, ap, ◌∙◌, add-one, drop-cons}
+use lib.Seq.{drop-length}
 use Rattle.arguments.specs.Numbers.{is_digit, number_behind, number_of}
-use Rattle.arguments.proofs.Digits.{digit, some, none, ends, goes_on, no_digit, too_large}
+use Rattle.arguments.proofs.Digits.{same_digits, digit, some, none, ends, goes_on, no_digit, too_large}
 use Rattle.arguments.proofs.number_of.Goals as goal
+use Rattle.arguments.proofs.number_of.Goals.{then-not-is_ascii_digit-via-then-not-is_ascii_digit, then-not-is_ascii_digit-via-else-not-is_ascii_digit+then-n-gt999999}
 
 -- what is left of the text begins with the character that is looked at
 module _ (text : List ℕ) (n i : ℕ) (inside : i < length text) (inv : number_behind 0 text ≡ number_behind n (drop i text)) where
@@ -20,44 +15,36 @@ module _ (text : List ℕ) (n i : ℕ) (inside : i < length text) (inv : number_
   next : is_digit (get_or text i 0) ≡ true → number_behind 0 text ≡ number_behind (n * 10 + (get_or text i 0 - 48)) (drop (i + 1) text)
   next d = rw add-one (inv ∙ ap (number_behind n) (drop-cons text i 0 inside) ∙ goes_on n (get_or text i 0) (drop (suc i) text) d)
 
-pub loop-i-init : goal.loop-i-init
-loop-i-init c = (omega arith, omega arith, refl)
+pub returns-then-is_empty : goal.returns-then-is_empty
+returns-then-is_empty c =
+    let empty : length c.args.text.now ≡ 0 = search rules in
+    sym (none c.args.text.now empty)
 
-pub returns-then-n-gt999999 : goal.returns-then-n-gt999999
-returns-then-n-gt999999 c =
-    let lp = c.loop-i in
-    sym (whole c.args.text.now lp.n lp.i (omega arith) lp.invariant.2 ∙ too_large lp.n _ _ (omega arith))
-
-pub overflow_sub-n : goal.overflow_sub-n
-overflow_sub-n c = omega (arith, digit _ (sym c.is_digit.ensures ∙ c.if-is_digit.true))
-
-pub overflow_cast-n : goal.overflow_cast-n
-overflow_cast-n c = omega (arith, digit _ (sym c.is_digit.ensures ∙ c.if-is_digit.true))
-
-pub overflow_add-n : goal.overflow_add-n
-overflow_add-n c = omega (arith, digit _ (sym c.is_digit.ensures ∙ c.if-is_digit.true))
-
-pub loop-i-preserved : goal.loop-i-preserved
-loop-i-preserved c =
-    let lp = c.loop-i in
+pub returns-then-not-is_ascii_digit : goal.returns-then-not-is_ascii_digit
+returns-then-not-is_ascii_digit c =
+    let lp = c.loop-c in
     let text = c.args.text.now in
-    let d = sym c.is_digit.ensures ∙ c.if-is_digit.true in
-    let k = digit _ d in
-    (omega arith, omega arith, next text lp.n lp.i (omega arith) lp.invariant.2 d)
+    sym
+    (whole text lp.n lp.c-index c.loop-c-test.true lp.invariant.0
+    ∙ (elim c.then-not-is_ascii_digit.branch [
+      | then-not-is_ascii_digit-via-then-not-is_ascii_digit w ↦
+          let other : c.is_ascii_digit.result ≡ false = search rules in
+          no_digit lp.n _ _ (sym (same_digits _) ∙ sym c.is_ascii_digit.ensures.value ∙ other)
+      | then-not-is_ascii_digit-via-else-not-is_ascii_digit+then-n-gt999999 w ↦ too_large lp.n _ _ w.if-n-gt999999.true
+    ]))
 
-pub returns-else-is_digit : goal.returns-else-is_digit
-returns-else-is_digit c =
-    let lp = c.loop-i in
-    sym (whole c.args.text.now lp.n lp.i (omega arith) lp.invariant.2
-    ∙ no_digit lp.n _ _ (sym c.is_digit.ensures ∙ c.if-is_digit.false))
-
-pub returns-then-i-eq0 : goal.returns-then-i-eq0
-returns-then-i-eq0 c = sym (none c.args.text.now (omega arith))
-
-pub returns-else-i-eq0 : goal.returns-else-i-eq0
-returns-else-i-eq0 c =
-    let lp = c.loop-i in
+pub loop-c-preserved : goal.loop-c-preserved
+loop-c-preserved c =
+    let lp = c.loop-c in
     let text = c.args.text.now in
-    let e : lp.i ≡ length text = omega arith in
-    sym (some text (omega arith) ∙ lp.invariant.2 ∙ ap (number_behind lp.n) (ap (λ (k : ℕ). drop k text) e ∙ drop-length text)
-    ∙ ends lp.n lp.invariant.1)
+    let one : c.is_ascii_digit.result ≡ true = search rules in
+    let d = sym (same_digits _) ∙ sym c.is_ascii_digit.ensures.value ∙ one in
+    (next text lp.n lp.c-index c.loop-c-test.true lp.invariant.0 d, omega (arith, digit _ d))
+
+pub returns : goal.returns
+returns c =
+    let lp = c.loop-c in
+    let text = c.args.text.now in
+    let all : lp.c-index ≡ length text = omega arith in
+    let there : 0 < length text = search rules in
+    sym (some text there ∙ lp.invariant.0 ∙ ap (number_behind lp.n) (ap (λ (k : ℕ). drop k text) all ∙ drop-length text) ∙ ends lp.n lp.invariant.1)
