@@ -10,20 +10,22 @@ use lib.Dec.{eqb, ltb}
 use lib.Ieee.{Float}
 use lib.ListN.{length, take, drop}
 use lib.Seq.{take_at, drop_at}
+use Rattle.std.specs.Prelude.{Result, Ok, Err}
 use Rattle.refusal.specs.Numbers.{number_of}
+use Rattle.refusal.specs.declared.Refusal.{Refusal}
 use Rattle.refusal.specs.declared.Refusal.TheVariants.{OutOfRange}
 use Rattle.block.specs.Bits.{Bits}
 use Rattle.record.specs.Editions.{edition_of, under}
 use Rattle.record.specs.declared.Edition.{Edition}
 use Rattle.record.specs.declared.Edition.TheVariants.{Of1984, Of1982}
-use Rattle.record.specs.declared.Named.TheVariants.{Given, Refused}
 use Rattle.timekeeping.proofs.Choices.{cond_elim}
 use Rattle.locking.specs.Modes.{no_blocks}
-use Rattle.halves.specs.Answer.{plan_of, written_by, written_of, count_in}
+use Rattle.halves.specs.Answer.{bits_under, plan_of, written_by, written_of, count_in}
 use Rattle.halves.specs.Decision.{Decision, one, zero, unsure, decision_of, bit_of, bits_of}
 use Rattle.halves.specs.Pairs.{paired}
+use Rattle.halves.specs.Polarities.{polarity_of}
 use Rattle.halves.specs.declared.Decided.{Decided}
-use Rattle.halves.specs.declared.Decided.TheVariants as decided
+use Rattle.halves.specs.declared.Pairing.{Pairing}
 use Rattle.halves.specs.declared.Pair.{Pair}
 use Rattle.halves.specs.declared.Polarity.{Polarity}
 use Rattle.halves.specs.declared.Polarity.TheVariants.{AsItStands, Exchanged}
@@ -39,7 +41,7 @@ use Rattle.receiver.proofs.StaysProper.{room}
 use Rattle.receiver.proofs.Together.{from_bits}
 use Rattle.receiver.proofs.WholeHistory.{bits_before_lem, from_after}
 use Rattle.face_receiver.specs.Under.{run_under}
-use Rattle.face_halves.specs.Under.{polarity_of, decided_under, written_under}
+use Rattle.face_halves.specs.Under.{decided_under, written_under}
 use Rattle.board.specs.Fed.{Took, FedAsBefore}
 use Rattle.board.specs.Fed as fed
 
@@ -77,7 +79,7 @@ in_front held bits n e b =
     record { many = ap length front ∙ e; bits = rw front b; rest = drop_at bits (drop n held) n e }
 
 module _ (readings : List Float) (margin : Float) (held : List ℕ) where
-  pairs_many : (polarity : Polarity) (pairing count : ℕ) → plan_of readings margin (length held) ≡ decided.Bits pairing count
+  pairs_many : (polarity : Polarity) (pairing : Pairing) (count : ℕ) → plan_of readings margin (length held) ≡ bits_under pairing count
       → length (bits_of polarity margin (paired pairing readings)) ≡ count
   pairs_many polarity pairing count e =
       bits_length polarity margin (paired pairing readings) ∙ paired_length pairing readings ∙ sym ((taken_exactly readings margin (length held) pairing count).then e).many
@@ -86,38 +88,38 @@ module _ (readings : List Float) (margin : Float) (held : List ℕ) where
   unfolding written_of
   wrote polarity = go (plan_of readings margin (length held)) refl
     where
-      go : (d : Decided) → plan_of readings margin (length held) ≡ d → Wrote held (written_by d readings margin polarity held) (count_in d)
-      go (decided.Bits pairing count) e =
-          in_front held (bits_of polarity margin (paired pairing readings)) count (pairs_many polarity pairing count e) (are_bits_lem polarity margin (paired pairing readings))
-      go (decided.Refused why) e = nothing_wrote held
+      go : (d : Result Decided Refusal) → plan_of readings margin (length held) ≡ d → Wrote held (written_by d readings margin polarity held) (count_in d)
+      go (Ok d) e =
+          in_front held (bits_of polarity margin (paired d.pairing readings)) d.count (pairs_many polarity d.pairing d.count e) (are_bits_lem polarity margin (paired d.pairing readings))
+      go (Err why) e = nothing_wrote held
 
   wrote_under : (polarity : ℕ) → Wrote held (written_under polarity readings margin held) (count_in (decided_under polarity readings margin (length held)))
   unfolding written_under decided_under
   wrote_under polarity = go (ltb 1 polarity)
     where
-      go : (t : Bool) → Wrote held (cond t held (written_of readings margin (polarity_of polarity) held)) (count_in (cond t (decided.Refused OutOfRange) (plan_of readings margin (length held))))
+      go : (t : Bool) → Wrote held (cond t held (written_of readings margin (polarity_of polarity) held)) (count_in (cond t (Err OutOfRange) (plan_of readings margin (length held))))
       go true = nothing_wrote held
       go false = wrote (polarity_of polarity)
 
   -- the bits in front are those of the pairs
-  module _ (pairing count : ℕ) where
-    of_pairs : (polarity : Polarity) → plan_of readings margin (length held) ≡ decided.Bits pairing count
+  module _ (pairing : Pairing) (count : ℕ) where
+    of_pairs : (polarity : Polarity) → plan_of readings margin (length held) ≡ bits_under pairing count
         → take count (written_of readings margin polarity held) ≡ bits_of polarity margin (paired pairing readings)
     unfolding written_of
     of_pairs polarity e = rw e (take_at (bits_of polarity margin (paired pairing readings)) (drop count held) count (pairs_many polarity pairing count e))
 
-    of_pairs_under : (polarity : ℕ) → decided_under polarity readings margin (length held) ≡ decided.Bits pairing count
+    of_pairs_under : (polarity : ℕ) → decided_under polarity readings margin (length held) ≡ bits_under pairing count
         → take (count_in (decided_under polarity readings margin (length held))) (written_under polarity readings margin held) ≡ bits_of (polarity_of polarity) margin (paired pairing readings)
     unfolding written_under decided_under
     of_pairs_under polarity = go (ltb 1 polarity)
       where
-        plan : Decided
+        plan : Result Decided Refusal
         plan = plan_of readings margin (length held)
 
-        go : (t : Bool) → cond t (decided.Refused OutOfRange) plan ≡ decided.Bits pairing count
-            → take (count_in (cond t (decided.Refused OutOfRange) plan)) (cond t held (written_of readings margin (polarity_of polarity) held)) ≡ bits_of (polarity_of polarity) margin (paired pairing readings)
+        go : (t : Bool) → cond t (Err OutOfRange) plan ≡ bits_under pairing count
+            → take (count_in (cond t (Err OutOfRange) plan)) (cond t held (written_of readings margin (polarity_of polarity) held)) ≡ bits_of (polarity_of polarity) margin (paired pairing readings)
         go true e = let z : ◌≡◌ {A = ℕ} 0 1 = cc in absurd (omega arith)
-        go false e = ap (λ (d : Decided). take (count_in d) (written_of readings margin (polarity_of polarity) held)) e ∙ of_pairs (polarity_of polarity) e
+        go false e = ap (λ (d : Result Decided Refusal). take (count_in d) (written_of readings margin (polarity_of polarity) held)) e ∙ of_pairs (polarity_of polarity) e
 
 -- ---- a run of bits
 
@@ -125,7 +127,7 @@ module _ (edition : Edition) where
   never_one : (s : State) (bs : List ℕ) → Bits bs → (run_of edition s bs).counts.refusal ≡ 1 → ⊥
   unfolding run_of
   never_one s bs h =
-      let P : Ran → Type 0 = λ r. r.counts.refusal ≡ 1 → ⊥ in
+      let P : Ran State → Type 0 = λ r. r.counts.refusal ≡ 1 → ⊥ in
       cond_elim P (ltb 65536 (length bs)) (λ _ e. absurd (omega arith))
       (λ _. cond_elim P (proper_of edition s) (λ _ e. absurd (omega (arith, from_bits edition bs no_blocks 0 s h))) (λ _ e. absurd (omega arith)))
 
@@ -146,7 +148,7 @@ unfolding edition_of
 never_one_under number s bs h = go (eqb number 1984) (eqb number 1982)
   where
     go : (a b : Bool)
-        → (under (cond a (Given Of1984) (cond b (Given Of1982) (Refused OutOfRange))) (λ edition. run_of edition s bs) (λ why. refused_run (number_of why) s)).counts.refusal ≡ 1 → ⊥
+        → (under (cond a (Ok Of1984) (cond b (Ok Of1982) (Err OutOfRange))) (λ edition. run_of edition s bs) (λ why. refused_run (number_of why) s)).counts.refusal ≡ 1 → ⊥
     go true b e = never_one Of1984 s bs h e
     go false true e = never_one Of1982 s bs h e
     go false false e = absurd (omega arith)
