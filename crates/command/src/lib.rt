@@ -5,17 +5,16 @@ ghost use Rattle.command.specs.Asked.{Asked};
 
 use arguments::edition_of;
 use console::{argument, argument_count};
-use record::{Edition, Named};
+use record::Edition;
 use refusal::Refusal;
 use std::env::Env;
 
 // An argument of more than four characters is read as empty, so that a year is written in one way only.
-fn edition_in(rt: &impl Env, i: usize) -> Named
+fn edition_in(rt: &impl Env, i: usize) -> Result<Edition, Refusal>
     ensures { Asked result }
 {
     let mut text = [0u8; 4];
-    let n = argument(rt, i, &mut text);
-    edition_of(&text[..n])
+    edition_of(argument(rt, i, &mut text))
 }
 
 // Where standard error takes nothing there is nowhere else to tell it.
@@ -30,21 +29,20 @@ fn no_edition(rt: &impl Eprint, program: &str) {
 }
 
 // The edition that a program is asked for, that of 1984 where none is named. That there is none is told behind the program's name.
-pub fn asked(rt: &(impl Env + Eprint), program: &str) -> Named
+pub fn asked(rt: &(impl Env + Eprint), program: &str) -> Result<Edition, Refusal>
     ensures { Asked result }
 {
     let count = argument_count(rt);
     if count < 2 {
-        return Named::Given(Edition::Of1984);
+        return Ok(Edition::Of1984);
     }
     if 2 < count {
         too_many(rt, program);
-        return Named::Refused(Refusal::OutOfRange);
+        return Err(Refusal::OutOfRange);
     }
     let named = edition_in(rt, 1);
-    match named {
-        Named::Given(_) => {}
-        Named::Refused(_) => no_edition(rt, program),
+    if named.is_err() {
+        no_edition(rt, program);
     }
     named
 }
