@@ -86,7 +86,7 @@ pub fn lw_run_packed(edition: u16, state: &mut PackedState, bits: &[u8]) -> Coun
 
 // ---- with what is remembered of its history, and why a dial is blank
 
-// How the time stands: its kind, and the bit that is to blame, 0 where there is none; zeros where refused.
+// How the time stands, as C reads it: its kind, and the bit that is to blame, 0 where there is none; zeros where refused.
 #[repr(C)]
 #[derive(Drop)]
 pub struct StandingAnswer {

@@ -48,7 +48,7 @@ pub struct PackedState {
     pub age: u8,
 }
 
-// What a run counts, and the remainder of its last bad block refused with 4.
+// What a run counts, and the remainder of its last bad block refused with 4. Plain numbers, since C reads them: the refusal's, 0 for none.
 #[repr(C)]
 #[derive(Default, Drop)]
 pub struct Counts {
@@ -214,13 +214,11 @@ fn feed_all(edition: Edition, state: PackedState, bits: &[u8], until: Until) -> 
                 window = window.move_on(left);
             } else {
                 let judged = judge(edition, lock, read_by(window.bits, left as u16));
-                let one = judged.blocks;
-                blocks = more(blocks, one);
                 let before = lock;
-                let next = judged.lock;
-                lock = next;
+                lock = judged.lock;
+                blocks = more(blocks, judged.blocks);
                 window = Window::empty();
-                if ends(until, before, next) {
+                if ends(until, before, lock) {
                     return counted(0, blocks, waited, i + 1, kept(lock, window));
                 }
             }
@@ -276,10 +274,11 @@ pub fn run(edition: Edition, state: State, bits: &[u8]) -> Ran<State>
     ensures { result ≡ run_of edition state bits.now }
 {
     let Ok(packed) = PackedState::try_from(state) else {
-        let mut why = Refusal::Improper;
-        if 65536 < bits.len() {
-            why = Refusal::RunTooLong;
-        }
+        let why = if 65536 < bits.len() {
+            Refusal::RunTooLong
+        } else {
+            Refusal::Improper
+        };
         return refused(why, state);
     };
     let ran = run_packed(edition, packed, bits);

@@ -61,8 +61,7 @@ impl TryFrom<State> for PackedState {
     ghost try_from_gives = { λ state result. result ≡ packing_of state };
 
     fn try_from(state: State) -> Result<PackedState, Refusal> {
-        let places = state.bits;
-        let bits = block::pack(&places)?;
+        let bits = block::pack(&state.bits)?;
         Ok(PackedState {
             mode: state.mode,
             good: state.good,

@@ -53,11 +53,6 @@ loop-i-init c =
       on = (0, rw none (omega arith), rw none);
     }
 
-pub counted-requires : goal.counted-requires
-counted-requires c =
-    let inv = c.loop-i.invariant in
-    (rw c.kept.ensures (omega (arith, inv.on.1)), omega (arith, inv.limit))
-
 pub returns-then-bit-gt1 : goal.returns-then-bit-gt1
 returns-then-bit-gt1 c =
     let bits = c.args.bits.now in
@@ -67,9 +62,6 @@ returns-then-bit-gt1 c =
     let no-bit : 2 ≤ get_or bits c.loop-i.i 0 = omega (arith, c.if-bit-gt1.true) in
     rw (c.counted.ensures, c.kept.ensures, passed_is _ c.loop-i.blocks _ _ c.loop-i.invariant.on.1, c.from-why.ensures, put_back c.loop-i.lock _ _ c.loop-i.window.few)
     (sym (on_stops _ until c.loop-i.i _ _ _ _ _ no-bit) ∙ whole ∙ entered c.args.edition c.args.state c.requires.0 c.lock_in-lock.ensures w.0 w.1 until bits)
-
-pub join-window-requires : goal.join-window-requires
-join-window-requires c = let inv = c.loop-i.invariant in (inv.room, omega (arith, c.if-bit-gt1.false))
 
 pub overflow_cast-left : goal.overflow_cast-left
 overflow_cast-left c = omega (arith, thirteen 49 _ c.behind_first-left.ensures)
@@ -166,11 +158,6 @@ loop-i-preserved c =
         );
       }
     ]
-
-pub counted-requires-2 : goal.counted-requires-2
-counted-requires-2 c =
-    let inv = c.loop-i.invariant in
-    (rw c.kept-2.ensures (omega (arith, inv.on.1)), omega (arith, inv.limit))
 
 pub returns : goal.returns
 returns c =
