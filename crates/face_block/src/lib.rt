@@ -80,14 +80,20 @@ fn tell(choice: Result<Aerial, Refused>, number: &mut u8, remainder: &mut u16) -
     ensures number { number.new ≡ number_told choice }
     ensures remainder { remainder.new ≡ remainder_told choice }
 {
-    (*number, *remainder) = match choice {
-        Ok(_) => (0, 0),
-        Err(refused) => (u8::from(refused.refusal), refused.remainder),
-    };
     match choice {
-        Ok(Aerial::First) => 1,
-        Ok(Aerial::Second) => 2,
-        Err(_) => 0,
+        Ok(aerial) => {
+            *number = 0;
+            *remainder = 0;
+            match aerial {
+                Aerial::First => 1,
+                Aerial::Second => 2,
+            }
+        }
+        Err(refused) => {
+            *number = u8::from(refused.refusal);
+            *remainder = refused.remainder;
+            0
+        }
     }
 }
 
