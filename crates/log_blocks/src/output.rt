@@ -3,7 +3,7 @@ ghost use Rattle.std.specs.Prelude.{◌≡◌};
 ghost use Rattle.journal.specs.Entries.{pair_bytes};
 
 use big_endian::store;
-use console::{is_done, put};
+use console::{Failure, put};
 
 fn pair_of(first: u64, second: u64) -> [u8; 16]
     ensures { result ≡ pair_bytes first second }
@@ -14,8 +14,7 @@ fn pair_of(first: u64, second: u64) -> [u8; 16]
     bytes
 }
 
-// Two numbers on standard output. Answers whether they were written; where not, it has said why on standard error.
-pub fn put_pair(rt: &(impl Print + Eprint), first: u64, second: u64) -> bool {
-    let bytes = pair_of(first, second);
-    is_done(rt, "log_blocks: standard output", put(rt, &bytes))
+// Two numbers on standard output.
+pub fn put_pair(rt: &impl Print, first: u64, second: u64) -> Result<(), Failure> {
+    put(rt, &pair_of(first, second))
 }

@@ -1,10 +1,10 @@
 -- Bits heard in parts are kept as if heard at once, what is said of a part is said of the bit that ends it, and the totals of a
 -- part are those of its run.
 -- Assumes nothing.
-use Rattle.std.proofs.Common.{◌≡◌, ℕ, ◌+◌, ◌-◌, ◌^◌, ◌<◌, ◌≤◌, Bool, true, false, List, [], ◌∷◌, ◌++◌, length, take, drop, sym, refl, ap, ◌∙◌, add-zero, add_assoc, mod-lt, mod-eq_of_lt, arith, length-drop, take-append-drop, drop-drop}
+use Rattle.std.proofs.Common.{None, ◌≡◌, ℕ, ◌+◌, ◌^◌, ◌<◌, ◌≤◌, Bool, true, false, List, [], ◌∷◌, ◌++◌, length, drop, sym, refl, ap, ◌∙◌, add-zero, add_assoc, mod-lt, mod-eq_of_lt, arith, take-append-drop}
 use native.Mathlib.Nat.{mod-add-mod}
 use Rattle.block.specs.Bits.{Bits}
-use Rattle.block.proofs.Strings.{bits_drop, rest_whole}
+use Rattle.block.proofs.Strings.{bits_append}
 use Rattle.locking.specs.declared.Lock.{Lock}
 use Rattle.locking.specs.Modes.{no_blocks}
 use Rattle.receiver.specs.declared.Ran.{Ran}
@@ -16,14 +16,13 @@ use Rattle.receiver.specs.Runs.{run_from}
 use Rattle.receiver.specs.Packed.{packed, unpacked, packed_proper}
 use Rattle.receiver.specs.Changes.{same_lock, runs_on, up_to}
 use Rattle.receiver.proofs.StaysProper.{Proper, step_proper}
-use Rattle.receiver.proofs.Layouts.{proper_fifty, there_and_back, packed_proper_lem, back_and_there, proper_small, proper_unpacked}
+use Rattle.receiver.proofs.Layouts.{fresh_packed_proper, proper_fifty, there_and_back, packed_proper_lem, back_and_there, proper_small, proper_unpacked}
 use Rattle.receiver.proofs.Together.{from_next}
 use Rattle.receiver.proofs.Running.{runs_same}
 use Rattle.receiver.proofs.Changes.{runs_on_lem, up_to_length, up_to_some, up_to_first, up_to_bits}
 use Rattle.receive.specs.declared.totals.Heard.{Heard}
 use Rattle.receive.specs.declared.totals.Kept.{Kept}
-use Rattle.receive.specs.declared.totals.Said.TheVariants.{Nothing}
-use Rattle.receive.specs.Totals.{edition, total, kept_next, kept_after, said_at, said_of, heard_of, FedOn}
+use Rattle.receive.specs.Totals.{edition, total, fresh_kept, kept_next, kept_after, said_at, said_of, heard_of, FedOn}
 
 -- ---- parts
 
@@ -60,8 +59,25 @@ unfolding kept_after
 after_proper k [] h p = p
 after_proper k (b ∷ bits) h p = after_proper (kept_next k b) bits h.1 (next_proper k b h.0 p)
 
-pub fed_proper : {start after : Kept} → FedOn start after → packed_proper edition start.state ≡ true → packed_proper edition after.state ≡ true
-fed_proper {start} f p = rw f.fed (after_proper start f.history f.bits p)
+-- ---- from before any bit on
+
+abbrev pub Fed : Kept → Type 0
+Fed = FedOn fresh_kept
+
+pub fed_none : Fed fresh_kept
+unfolding kept_after
+fed_none = record { history = []; bits = tt; fed = refl }
+
+pub fed_more : {k after : Kept} → Fed k → (bits : List ℕ) → Bits bits → after ≡ kept_after k bits → Fed after
+fed_more f bits b e =
+    record {
+      history = f.history ++ bits;
+      bits = bits_append f.history bits f.bits b;
+      fed = e ∙ ap (λ (k : Kept). kept_after k bits) f.fed ∙ sym (after_append fresh_kept f.history bits);
+    }
+
+pub fed_proper : {k : Kept} → Fed k → packed_proper edition k.state ≡ true
+fed_proper f = rw f.fed (after_proper fresh_kept f.history f.bits (fresh_packed_proper edition))
 
 -- ---- what is said
 
@@ -73,7 +89,7 @@ said_same : (a b c : Kept) (n : ℕ) → same_lock a.state.mode b.state.mode ≡
 unfolding said_at runs_on
 said_same a b c n e = rw (runs_on_lem LockChange (lock a) (lock b) (lock c) e)
 
-said_none : (k : Kept) (n : ℕ) → said_at k.state.mode k.state.mode n ≡ Nothing
+said_none : (k : Kept) (n : ℕ) → said_at k.state.mode k.state.mode n ≡ None
 unfolding said_at runs_on
 said_none k n = rw (runs_same LockChange (lock k))
 
@@ -105,7 +121,7 @@ pub record Fitting (k : Kept) : Type 0 where
   pub passed : k.passed < 2 ^ 64
 
 -- the totals with a run of n bits
-abbrev pub totalled : Kept → Ran → ℕ → Kept
+abbrev pub totalled : Kept → Ran State → ℕ → Kept
 totalled k r n =
     record {
       fed = total k.fed n;
@@ -148,7 +164,7 @@ unfolding kept_after kept_next
 after_run k [] f h p = sym (total_nothing k (f refl) p)
 after_run k (b ∷ bits) f h p =
     let t : Step = step_of edition (unpacked k.state) b in
-    let r : Ran = run_from edition bits no_blocks 0 t.next in
+    let r : Ran State = run_from edition bits no_blocks 0 t.next in
     let n : 1 + length bits ≡ length (b ∷ bits) = omega arith in
     after_run (kept_next k b) bits (λ _. next_fits k b) h.1 (next_proper k b h.0 p)
     ∙ rw (
@@ -161,24 +177,21 @@ after_run k (b ∷ bits) f h p =
       total_more k.passed t.passed r.counts.passed,
     )
 
--- ---- one turn: the bits from the i-th on are heard up to the change
+-- ---- one turn: the bits that are left are heard up to the change
 
-module _ (k : Kept) (bits : List ℕ) (i : ℕ) (h : Heard) (e : h ≡ heard_of k (take (length bits - i) (drop i bits))) (more : i < length bits) where
-  turn : h ≡ heard_of k (drop i bits)
-  turn = e ∙ ap (heard_of k) (rest_whole bits i)
-
-  pub turn_fed : (0 < h.fed) × (i + h.fed ≤ length bits)
+module _ (k : Kept) (bits : List ℕ) (h : Heard) (e : h ≡ heard_of k bits) where
+  pub turn_fed : 0 < length bits → (0 < h.fed) × (h.fed ≤ length bits)
   unfolding heard_of
-  turn_fed =
-      let n : length (drop i bits) ≡ length bits - i = length-drop i bits in
-      rw turn (up_to_some edition LockChange (unpacked k.state) (drop i bits) (omega arith), omega (arith, up_to_length edition LockChange (unpacked k.state) (drop i bits)))
+  turn_fed more =
+      rw e (
+        up_to_some edition LockChange (unpacked k.state) bits more,
+        up_to_length edition LockChange (unpacked k.state) bits,
+      )
 
   pub turn_proper : Bits bits → packed_proper edition k.state ≡ true → packed_proper edition h.kept.state ≡ true
   unfolding heard_of
-  turn_proper b p = rw turn (after_proper k _ (up_to_bits edition LockChange (unpacked k.state) (drop i bits) (bits_drop i bits b)) p)
+  turn_proper b p = rw e (after_proper k _ (up_to_bits edition LockChange (unpacked k.state) bits b) p)
 
-  pub turn_kept : kept_after h.kept (drop (i + h.fed) bits) ≡ kept_after k (drop i bits)
+  pub turn_kept : kept_after h.kept (drop h.fed bits) ≡ kept_after k bits
   unfolding heard_of
-  turn_kept =
-      let s : State = unpacked k.state in
-      rw turn (rw (← drop-drop (length (up_to edition LockChange s (drop i bits))) i bits) (after_change k s (drop i bits)))
+  turn_kept = rw e (after_change k (unpacked k.state) bits)

@@ -1,6 +1,6 @@
 -- What is kept from one piece of the input to the next, and what is told about lock (01, "The receiver program").
 -- Assumes nothing.
-use Rattle.std.specs.Prelude.{◌≡◌, ℕ, ◌+◌, ◌%◌, ◌^◌, cond, List, [], ◌∷◌, length, ◌==◌}
+use Rattle.std.specs.Prelude.{◌≡◌, ℕ, ◌+◌, ◌%◌, ◌^◌, cond, List, [], ◌∷◌, length, ◌==◌, Option, None, Some}
 use Rattle.block.specs.Bits.{Bits}
 use Rattle.record.specs.declared.Edition.{Edition}
 use Rattle.record.specs.declared.Edition.TheVariants.{Of1984}
@@ -12,7 +12,7 @@ use Rattle.receiver.specs.Changes.{same_lock, up_to}
 use Rattle.receive.specs.declared.totals.Heard.{Heard}
 use Rattle.receive.specs.declared.totals.Kept.{Kept}
 use Rattle.receive.specs.declared.totals.Said.{Said}
-use Rattle.receive.specs.declared.totals.Said.TheVariants.{Nothing, Came, Went}
+use Rattle.receive.specs.declared.totals.Said.TheVariants.{Came, Went}
 
 -- the edition that records are read by; nothing that is told depends on a record, so either would do (02, No. 3)
 abbrev pub edition : Edition
@@ -44,12 +44,12 @@ kept_after k [] = k
 kept_after k (b ∷ bs) = kept_after (kept_next k b) bs
 
 -- with bit n, by the modes before and after it: that lock came, that it went, or nothing
-unfoldable pub said_at : ℕ → ℕ → ℕ → Said
-said_at before after n = cond (same_lock before after) Nothing (cond (after == locked) (Came n) (Went n))
+unfoldable pub said_at : ℕ → ℕ → ℕ → Option Said
+said_at before after n = cond (same_lock before after) None (cond (after == locked) (Some (Came n)) (Some (Went n)))
 
 -- the first that there is to say of these bits: it is of the first bit with which lock comes or goes
-unfoldable pub said_of : Kept → List ℕ → Said
-said_of k [] = Nothing
+unfoldable pub said_of : Kept → List ℕ → Option Said
+said_of k [] = None
 said_of k (b ∷ bs) =
     let t : Kept = kept_next k b in
     cond (same_lock k.state.mode t.state.mode) (said_of t bs) (said_at k.state.mode t.state.mode t.fed)

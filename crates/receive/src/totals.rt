@@ -8,7 +8,7 @@ use receiver::{PackedState, Until, run_until};
 use record::Edition;
 
 // The totals over the whole input so far, and the state after it, its waiting bits one number.
-#[derive(Drop)]
+#[derive(Clone, Copy)]
 pub struct Kept {
     pub fed: u64,
     pub good: u64,
@@ -17,43 +17,38 @@ pub struct Kept {
     pub state: PackedState,
 }
 
-// Nothing, or that lock came or went with the bit of this number.
-#[derive(Drop)]
+// That lock came or went with the bit of this number.
+#[derive(Clone, Copy)]
 pub enum Said {
-    Nothing,
     Came(u64),
     Went(u64),
 }
 
 // What is kept after the bits that were fed, how many these were, and what there is to say of the last.
-#[derive(Drop)]
+#[derive(Clone, Copy)]
 pub struct Heard {
     pub kept: Kept,
     pub fed: usize,
-    pub said: Said,
+    pub said: Option<Said>,
 }
 
 // A total and what comes to it.
 fn add(start: u64, more: u32) -> u64
     ensures { result ≡ total start more }
 {
-    std::num::wrapping_add_u64(start, more as u64)
+    start.wrapping_add(u64::from(more))
 }
 
 // By the modes before and after bit n.
-fn said_at(before: u8, after: u8, n: u64) -> Said
+#[tactic(auto, unfolding(crate::specs::Totals::said_at, receiver::specs::Changes::same_lock))]
+fn said_at(before: u8, after: u8, n: u64) -> Option<Said>
     ensures { result ≡ said_at before after n }
 {
-    if before == 2 {
-        if after == 2 {
-            return Said::Nothing;
-        }
-        return Said::Went(n);
+    match (before == 2, after == 2) {
+        (false, true) => Some(Said::Came(n)),
+        (true, false) => Some(Said::Went(n)),
+        _ => None,
     }
-    if after == 2 {
-        return Said::Came(n);
-    }
-    Said::Nothing
 }
 
 // Feeds the bits up to the first with which lock comes or goes, or all.
@@ -67,18 +62,16 @@ pub fn hear(kept: Kept, bits: &[u8]) -> Heard
     let ran = stretch.ran;
     let counts = ran.counts;
     let state = ran.state;
-    let fed = std::num::wrapping_add_u64(kept.fed, stretch.fed as u64);
-    let after = Kept {
-        fed,
-        good: add(kept.good, counts.good),
-        bad: add(kept.bad, counts.bad),
-        passed: add(kept.passed, counts.passed),
-        state,
-    };
-    let said = said_at(before.mode, state.mode, fed);
+    let fed = kept.fed.wrapping_add(stretch.fed as u64);
     Heard {
-        kept: after,
+        kept: Kept {
+            fed,
+            good: add(kept.good, counts.good),
+            bad: add(kept.bad, counts.bad),
+            passed: add(kept.passed, counts.passed),
+            state,
+        },
         fed: stretch.fed,
-        said,
+        said: said_at(before.mode, state.mode, fed),
     }
 }

@@ -1,42 +1,46 @@
 -- `feed_all` meets its contract: each turn feeds at least one bit.
 -- Assumes nothing.
-use Rattle.std.proofs.Common.{◌∙◌, arith, length-drop, drop_of_length-le}
+use Rattle.std.proofs.Common.{rules, ◌≡◌, [], subst, ℕ, ◌-◌, ◌<◌, ◌∙◌, List, length, take, drop, ap, sym, arith, ◌≤◌, length-drop, drop_of_length-le}
+use Rattle.block.specs.Bits.{Bits}
 use Rattle.block.proofs.Strings.{bits_drop, rest_whole}
 use Rattle.receive.specs.Totals.{kept_after}
 use Rattle.receive.proofs.Hearing.{turn_fed, turn_proper, turn_kept}
 use Rattle.receive.proofs.feed_all.Goals as goal
 
-pub hear-heard-requires : goal.hear-heard-requires
-hear-heard-requires g c =
-    let bits = c.args.bits.now in
-    let i = c.loop-i.i in
-    rw (rest_whole bits i) (
-      c.loop-i.invariant.1,
-      bits_drop i bits c.requires.1,
-      omega (arith, length-drop i bits),
-      omega (arith, length-drop i bits),
-    )
+pub slice_bounds-rest-count : goal.slice_bounds-rest-count
+slice_bounds-rest-count g c =
+    let more : 0 < length c.loop-rest.rest.now = search rules in
+    (turn_fed _ _ _ c.hear-heard.ensures more).1
 
-pub overflow_add-i : goal.overflow_add-i
-overflow_add-i g c =
-    omega (arith, turn_fed c.loop-i.kept c.args.bits.now c.loop-i.i _ c.hear-heard.ensures c.loop-i-test.true)
+pub slice_bounds-rest-start : goal.slice_bounds-rest-start
+slice_bounds-rest-start g c =
+    let more : 0 < length c.loop-rest.rest.now = search rules in
+    let fed = turn_fed _ _ _ c.hear-heard.ensures more in search rules
 
-pub loop-i-smaller : goal.loop-i-smaller
-loop-i-smaller g c =
-    omega (arith, turn_fed c.loop-i.kept c.args.bits.now c.loop-i.i _ c.hear-heard.ensures c.loop-i-test.true)
+pub loop-rest-smaller : goal.loop-rest-smaller
+loop-rest-smaller g c =
+    let r = c.loop-rest.rest.now in
+    let more : 0 < length c.loop-rest.rest.now = search rules in
+    let fed = turn_fed _ _ _ c.hear-heard.ensures more in
+    let e : take (length r - c.hear-heard.result.fed) (drop c.hear-heard.result.fed r) ≡ drop c.hear-heard.result.fed r = rest_whole r c.hear-heard.result.fed in
+    omega (arith, ap length e, length-drop c.hear-heard.result.fed r)
 
-pub loop-i-preserved : goal.loop-i-preserved
-loop-i-preserved g c =
-    let k = c.loop-i.kept in
-    let bits = c.args.bits.now in
-    let i = c.loop-i.i in
-    let heard = c.hear-heard in
-    let more = c.loop-i-test.true in (
-      (turn_fed k bits i heard.result heard.ensures more).1,
-      turn_proper k bits i heard.result heard.ensures more c.requires.1 c.loop-i.invariant.1,
-      turn_kept k bits i heard.result heard.ensures more ∙ c.loop-i.invariant.2,
-    )
+pub loop-rest-preserved : goal.loop-rest-preserved
+loop-rest-preserved g c =
+    let r = c.loop-rest.rest.now in
+    let n = c.hear-heard.result.fed in
+    let e : take (length r - n) (drop n r) ≡ drop n r = rest_whole r n in
+    record {
+      proper = turn_proper _ _ _ c.hear-heard.ensures c.loop-rest.invariant.bits c.loop-rest.invariant.proper;
+      bits = subst (λ (l : List ℕ). Bits l) (sym e) (bits_drop n r c.loop-rest.invariant.bits);
+      few = omega (arith, ap length e, length-drop n r);
+      whole = ap (kept_after c.hear-heard.result.kept) e ∙ turn_kept _ _ _ c.hear-heard.ensures ∙ c.loop-rest.invariant.whole;
+    }
 
 pub returns : goal.returns
 unfolding kept_after
-returns g c = rw (drop_of_length-le _ c.loop-i-test.false) at c.loop-i.invariant.2
+returns g c =
+    let r = c.loop-rest.rest.now in
+    let none : length r ≤ 0 = search rules in
+    let e : r ≡ [] = drop_of_length-le r {i = 0} none in
+    rw e at c.loop-rest.invariant.whole

@@ -20,11 +20,10 @@ returns c =
     rw (
       said_last k bits c.requires.1 c.requires.0,
       after_run k part (λ e. absurd (omega (arith, ap length e))) fed c.requires.0,
-      c.said_at-said.ensures,
+      c.said_at.ensures,
       c.add-3.ensures,
       c.add-2.ensures,
       c.add.ensures,
-      c.wrapping_add_u64-fed.ensures.value,
       c.run_until-stretch.ensures,
       bits_taken edition LockChange k.state bits c.requires.0 c.requires.1 c.requires.3,
     )
