@@ -1,6 +1,7 @@
 -- The laws, in reading order: years and their leap codes, months and weeks, the coded year, what an answer says, then what the calls
 -- promise together, and how the editions correspond.
 pub mod Choice
+pub mod Unwrapped
 pub mod Years
 pub mod LeapCodes
 pub mod KindOfYear

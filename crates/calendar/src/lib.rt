@@ -2,7 +2,7 @@
 #![tactic(auto)]
 
 ghost use Rattle.std.specs.Prelude.{◌≡◌, true, ◌≤◌, Ok};
-ghost use Rattle.record.specs.Ranges.{within, in_range};
+ghost use Rattle.record.specs.Ranges.{within};
 ghost use Rattle.calendar.specs.Years.{first_year_of_span, last_first_year, last_year, first_civil_year, last_civil_year};
 ghost use Rattle.calendar.specs.Dates.{new_date, usable_of, HasWeek, day_of_record, date_from, date_in, date_of, date_in_range, day_of_date, coded_year, record_of};
 ghost use Rattle.calendar.specs.NextMinute.{next_minute_of};
@@ -14,7 +14,7 @@ mod week;
 mod year;
 
 use leap::{leap_code, says_leap};
-use minute::go_on;
+use minute::Ranged;
 use month::{days_before, month_day, month_length};
 use record::{Edition, Record};
 use refusal::Refusal;
@@ -66,9 +66,10 @@ impl Date {
         requires { HasWeek coded «record» }
         ensures { result ≡ date_from coded «record» }
     {
-        let day = day_of_record(coded, record);
+        let ranged = Ranged { fields: record };
+        let day = day_of_record(coded, ranged);
         let year = civil_year(coded, day);
-        let on = month_day(day - new_year(year) + 1, is_leap(year));
+        let on = month_day(day - new_year(year) + 1, is_leap(year)).unwrap();
         Date::new(
             year,
             on.month,
@@ -147,8 +148,10 @@ pub fn record_of_date(edition: Edition, date: Date) -> Result<Record, Refusal>
 pub fn next_minute(edition: Edition, record: Record) -> Result<Record, Refusal>
     ensures { result ≡ next_minute_of edition «record» }
 {
-    let usable = usable(edition, record)?;
-    Ok(go_on(edition, usable))
+    let ranged = Ranged {
+        fields: usable(edition, record)?,
+    };
+    Ok(ranged.go_on(edition))
 }
 
 // The month exists, it has the day, and the time is in range.
@@ -200,10 +203,11 @@ fn record_in(edition: Edition, coded: u16, day: u32, date: Date) -> Record
 }
 
 // The day that a record names in a coded year.
-fn day_of_record(coded: u16, record: Record) -> u32
-    requires { (first_year_of_span ≤ coded) × (coded ≤ last_year) × (in_range «record» ≡ true) }
-    ensures { result ≡ day_of_record coded «record» }
+fn day_of_record(coded: u16, ranged: Ranged) -> u32
+    requires { (first_year_of_span ≤ coded) × (coded ≤ last_year) }
+    ensures { result ≡ day_of_record coded ranged.fields }
 {
+    let record = ranged.fields;
     let weeks = record.week as u32 - 1;
     week_one(coded) + 7 * weeks + (record.weekday as u32 - 1)
 }

@@ -1,6 +1,6 @@
 // Months: their lengths, and the day of the year that a day of a month is.
-ghost use Rattle.std.specs.Prelude.{◌≡◌, ◌-◌, ◌≤◌};
-ghost use Rattle.calendar.specs.Days.{months, month_length, sum_of, month_from};
+ghost use Rattle.std.specs.Prelude.{◌≡◌, ◌-◌, ◌≤◌, unwrap_or};
+ghost use Rattle.calendar.specs.Days.{months, month_length, sum_of, month_day, month_from};
 
 // A month and a day of it.
 #[derive(Clone, Copy)]
@@ -35,20 +35,20 @@ pub fn days_before(month: u8, leap: bool) -> u16
     days
 }
 
-// The month and the day of it of a day of the year; zeros, as `month_from` has them, where the year has no such day.
-pub fn month_day(day: u32, leap: bool) -> MonthDay
-    ensures { result ≡ month_from (months leap) 1 day }
+// The month and the day of it of a day of the year, if the year has it.
+pub fn month_day(day: u32, leap: bool) -> Option<MonthDay>
+    ensures { unwrap_or result (month_day 0 0) ≡ month_from (months leap) 1 day }
 {
     let mut left = day;
     for month in 1..13 {
         let length = month_length(month, leap) as u32;
         if left <= length {
-            return MonthDay {
+            return Some(MonthDay {
                 month,
                 day: left as u8,
-            };
+            });
         }
         left -= length;
     }
-    MonthDay { month: 0, day: 0 }
+    None
 }

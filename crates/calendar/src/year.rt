@@ -23,6 +23,7 @@ pub fn year_length(leap: bool) -> u16
 }
 
 // 1 January, in days after Monday, 1 January 1900: 365 for each year, and the leap days since.
+// A year stays a number: whoever made a struct of one would show there the range that is shown now where it calls.
 pub fn new_year(year: u16) -> u32
     requires { (first_civil_year ≤ year) × (year ≤ last_civil_year + 1) }
     ensures { result ≡ new_year year }

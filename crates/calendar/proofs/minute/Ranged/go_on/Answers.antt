@@ -1,8 +1,8 @@
--- `calendar::minute::go_on` meets its contract: the tests come in the order of the definition.
+-- `calendar::minute::Ranged::go_on` meets its contract: the tests come in the order of the definition.
 -- Assumes nothing.
 use borrow.Author.Tests.{lt-ltb, le-ltb}
 use Rattle.calendar.specs.NextMinute.{go_on}
-use Rattle.calendar.proofs.minute.go_on.Goals as goal
+use Rattle.calendar.proofs.minute.Ranged.go_on.Goals as goal
 
 pub returns-then-record-lt59 : goal.returns-then-record-lt59
 unfolding go_on
