@@ -1,7 +1,7 @@
 -- Bytes as a number: what eight of them write fits, and a byte behind others.
 -- Assumes nothing.
-use Rattle.std.proofs.Common.{◌≡◌, ℕ, suc, ◌+◌, ◌-◌, ◌*◌, ◌%◌, ◌^◌, ◌<◌, ◌≤◌, List, [], ◌∷◌, ◌++◌, length, get_or, take, drop, sym, ap, ap₂, ◌∙◌, add-one, mod-eq_of_lt, arith, length-take, length-drop, drop_of_length-le, drop-cons, take_all, take-suc, pow_mono, le-leb, w64}
-use Rattle.std.specs.Int.{from_be_bytes}
+use Rattle.std.proofs.Common.{◌≡◌, ℕ, suc, ◌+◌, ◌-◌, ◌*◌, ◌/◌, ◌%◌, ◌^◌, ◌<◌, ◌≤◌, List, [], ◌∷◌, ◌++◌, length, get_or, take, drop, sym, ap, ap₂, ◌∙◌, add-one, mod-eq_of_lt, div-one, arith, length-take, length-drop, drop_of_length-le, drop-cons, take_all, take-suc, pow_mono, le-leb, w64}
+use Rattle.std.specs.Int.{from_be_bytes, to_be_bytes}
 use borrow.Rule.Slice.PartMut.{mid_of, put_mid, mid_len, Post-is}
 use lib.Pow.{mod-mod-pow, mod-pow-add, high, low}
 use Rattle.big_endian.specs.Bytes.{Told, kept_behind, number_at}
@@ -38,6 +38,12 @@ module _ (bytes : List ℕ) (size : length bytes ≡ 8) where
   eight_read =
       let none : number 8 (drop 8 bytes) ≡ 0 = rw (drop_of_length-le bytes {i = 8} (omega arith)) in
       omega (arith, from_place 0 (omega arith), from_place 1 (omega arith), from_place 2 (omega arith), from_place 3 (omega arith), from_place 4 (omega arith), from_place 5 (omega arith), from_place 6 (omega arith), from_place 7 (omega arith), none)
+
+-- and as it writes one into them
+pub eight_written : (n : ℕ) → to_be_bytes w64 n ≡ digits 8 8 n
+unfolding digits
+eight_written n =
+    ap (λ (m : ℕ). n / 256 ^ 7 % 256 ∷ n / 256 ^ 6 % 256 ∷ n / 256 ^ 5 % 256 ∷ n / 256 ^ 4 % 256 ∷ n / 256 ^ 3 % 256 ∷ n / 256 ^ 2 % 256 ∷ n / 256 ^ 1 % 256 ∷ m % 256 ∷ []) (sym (div-one n))
 
 -- eight bytes from a place on
 module _ (s : List ℕ) (at : ℕ) (inside : at + 8 ≤ length s) where

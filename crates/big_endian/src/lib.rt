@@ -32,6 +32,11 @@ pub fn number_of(bytes: &[u8]) -> u64
 pub fn store(out: &mut [u8], number: u64)
     ensures { out.new ≡ digits 8 (length out.old) number }
 {
+    // Eight bytes are written as one word.
+    if out.len() == 8 {
+        out.copy_from_slice(&number.to_be_bytes());
+        return;
+    }
     let mut left = number;
     for k in (0..out.len()).rev() {
         out[k] = (left % 256) as u8;

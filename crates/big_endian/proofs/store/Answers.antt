@@ -1,10 +1,15 @@
 -- `store` meets its contract: each byte goes from those to be stored to those that are.
 -- Assumes nothing.
-use Rattle.std.proofs.Common.{length, arith, refl, ◌∙◌}
+use Rattle.std.proofs.Common.{ℕ, length, arith, refl, sym, ap, ◌∙◌}
 use Rattle.block.proofs.Storing.{stores_one, stored_all}
 use Rattle.big_endian.specs.Digits.{digits}
+use Rattle.big_endian.proofs.Bytes.{eight_written}
 use Rattle.big_endian.proofs.Digits.{digits_last}
 use Rattle.big_endian.proofs.store.Goals as goal
+
+pub returns-then-out-eq8 : goal.returns-then-out-eq8
+returns-then-out-eq8 c =
+    c.copy_from_slice.ensures.after ∙ c.to_be_bytes.ensures ∙ eight_written c.args.number ∙ ap (λ (k : ℕ). digits 8 k c.args.number) (sym c.if-out-eq8.true)
 
 pub loop-k-preserved : goal.loop-k-preserved
 unfolding digits
