@@ -134,7 +134,8 @@ pub fn record_of_date(edition: Edition, date: Date) -> Result<Record, Refusal>
     let in_range = date_in_range(date);
     if in_civil_years {
         if in_range {
-            written(edition, date)
+            let civil = CivilDate { fields: date };
+            civil.written(edition)
         } else {
             Err(Refusal::OutOfRange)
         }
@@ -170,38 +171,6 @@ fn date_in_range(date: Date) -> bool
     }
 }
 
-// The record of a date of the civil years, where its week's year can be coded.
-fn written(edition: Edition, date: Date) -> Result<Record, Refusal>
-    requires { (first_civil_year ≤ date.year) × (date.year ≤ last_civil_year) × (date_in_range date ≡ true) }
-    ensures { result ≡ record_of edition date }
-{
-    let day = day_of_date(date);
-    let begin = week_one(date.year);
-    let next = week_one(date.year + 1);
-    let coded = year_around(date.year, begin, next, day);
-    if record::within(Date::FIRST_YEAR, coded, Date::LAST_YEAR) {
-        return Ok(record_in(edition, coded, day, date));
-    }
-    Err(Refusal::WrongYear)
-}
-
-// The record of a date on a day of its coded year.
-fn record_in(edition: Edition, coded: u16, day: u32, date: Date) -> Record
-    requires { (first_year_of_span ≤ coded) × (coded ≤ last_year) × (date_in_range date ≡ true) × (coded ≡ coded_year date) × (day ≡ day_of_date date) }
-    ensures { record_of edition date ≡ Ok result }
-{
-    let since = day - week_one(coded);
-    Record {
-        leap: leap_code(edition, coded),
-        start_day: start_day_of(coded),
-        week: (since / 7 + 1) as u8,
-        weekday: (since % 7 + 1) as u8,
-        hour: date.hour,
-        minute: date.minute,
-        offset: date.offset,
-    }
-}
-
 // The day that a record names in a coded year.
 fn day_of_record(coded: u16, ranged: Ranged) -> u32
     requires { (first_year_of_span ≤ coded) × (coded ≤ last_year) }
@@ -212,11 +181,54 @@ fn day_of_record(coded: u16, ranged: Ranged) -> u32
     week_one(coded) + 7 * weeks + (record.weekday as u32 - 1)
 }
 
-// The day of a date.
-fn day_of_date(date: Date) -> u32
-    requires { (first_civil_year ≤ date.year) × (date.year ≤ last_civil_year) × (date_in_range date ≡ true) }
-    ensures { result ≡ day_of_date date }
-{
-    let days = days_before(date.month, is_leap(date.year)) + date.day as u16;
-    new_year(date.year) + (days - 1) as u32
+// A date of the civil years whose fields all lie in their ranges.
+#[derive(Clone, Copy)]
+struct CivilDate {
+    fields: Date,
+    ghost in_years: { (first_civil_year ≤ fields.year) × (fields.year ≤ last_civil_year) },
+    ghost are_in_range: { date_in_range fields ≡ true },
+}
+
+impl CivilDate {
+    // Its record, where its week's year can be coded.
+    fn written(self, edition: Edition) -> Result<Record, Refusal>
+        ensures { result ≡ record_of edition self.fields }
+    {
+        let date = self.fields;
+        let day = self.day();
+        let begin = week_one(date.year);
+        let next = week_one(date.year + 1);
+        let coded = year_around(date.year, begin, next, day);
+        if record::within(Date::FIRST_YEAR, coded, Date::LAST_YEAR) {
+            return Ok(self.record_in(edition, coded, day));
+        }
+        Err(Refusal::WrongYear)
+    }
+
+    // Its record, on a day of its coded year.
+    fn record_in(self, edition: Edition, coded: u16, day: u32) -> Record
+        requires { (first_year_of_span ≤ coded) × (coded ≤ last_year) × (coded ≡ coded_year self.fields) × (day ≡ day_of_date self.fields) }
+        ensures { record_of edition self.fields ≡ Ok result }
+    {
+        let date = self.fields;
+        let since = day - week_one(coded);
+        Record {
+            leap: leap_code(edition, coded),
+            start_day: start_day_of(coded),
+            week: (since / 7 + 1) as u8,
+            weekday: (since % 7 + 1) as u8,
+            hour: date.hour,
+            minute: date.minute,
+            offset: date.offset,
+        }
+    }
+
+    // Its day.
+    fn day(self) -> u32
+        ensures { result ≡ day_of_date self.fields }
+    {
+        let date = self.fields;
+        let days = days_before(date.month, is_leap(date.year)) + date.day as u16;
+        new_year(date.year) + (days - 1) as u32
+    }
 }

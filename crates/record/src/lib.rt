@@ -115,7 +115,7 @@ pub fn in_range(record: Record) -> bool
         && time_in_range(record.hour, record.minute, record.offset)
 }
 
-// The fields that a date carries too lie in their ranges.
+// The fields that a date carries too lie in their ranges: three numbers, since C has them side by side with the others in both structs.
 #[tactic(auto, unfolding(crate::specs::Ranges::time_in_range))]
 pub fn time_in_range(hour: u8, minute: u8, offset: i8) -> bool
     ensures { result ≡ time_in_range hour minute offset }

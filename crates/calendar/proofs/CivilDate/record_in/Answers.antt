@@ -1,4 +1,4 @@
--- `calendar::record_in` meets its contract: the days since the Monday of week 1, divided by 7.
+-- `calendar::CivilDate::record_in` meets its contract: the days since the Monday of week 1, divided by 7.
 -- Assumes nothing.
 use Prim.Native.Nat.{ℕ, ◌-◌, ◌≤◌, ◌<◌}
 use native.Mathlib.Omega.{arith}
@@ -13,7 +13,7 @@ use Rattle.calendar.proofs.Bounds.{bounds}
 use Rattle.calendar.proofs.Weeks.{weeks_range}
 use Rattle.calendar.proofs.Answers.{InCalendar, record_is}
 use Rattle.calendar.proofs.RoundTrip.{day_in_year, since_range}
-use Rattle.calendar.proofs.record_in.Goals as goal
+use Rattle.calendar.proofs.CivilDate.record_in.Goals as goal
 
 -- what the caller knows of the date: it is in the calendar, and its day in the weeks of its year
 in_calendar :
@@ -32,16 +32,16 @@ in_weeks coded day date c e f =
 pub overflow_sub-since : goal.overflow_sub-since
 overflow_sub-since c =
     let p = c.requires in
-    omega (arith, c.week_one.ensures, in_weeks _ _ _ (in_calendar _ _ p.0 p.1 p.2 p.3) p.3 p.4)
+    omega (arith, c.week_one.ensures, in_weeks _ _ _ (in_calendar _ _ p.0 p.1 c.args.self.are_in_range p.2) p.2 p.3)
 
 pub overflow_cast-result : goal.overflow_cast-result
 overflow_cast-result c =
     let p = c.requires in
-    omega (arith, c.week_one.ensures, in_weeks _ _ _ (in_calendar _ _ p.0 p.1 p.2 p.3) p.3 p.4)
+    omega (arith, c.week_one.ensures, in_weeks _ _ _ (in_calendar _ _ p.0 p.1 c.args.self.are_in_range p.2) p.2 p.3)
 
 pub returns : goal.returns
 unfolding record_at
 returns c =
     let p = c.requires in
-    record_is c.args.edition c.args.date (in_calendar _ _ p.0 p.1 p.2 p.3)
-    ∙ rw (c.start_day_of.ensures, c.leap_code.ensures, c.week_one.ensures, p.4, p.3, back {z = c.args.date.offset} (omega arith))
+    record_is c.args.edition c.args.self.fields (in_calendar _ _ p.0 p.1 c.args.self.are_in_range p.2)
+    ∙ rw (c.start_day_of.ensures, c.leap_code.ensures, c.week_one.ensures, p.3, p.2, back {z = c.args.self.fields.offset} (omega arith))
