@@ -14,9 +14,7 @@ fn value_at(x: u8, symbols: u32) -> u8
     ensures { result ≡ at x (digits 4 6 symbols) }
 {
     let mut value: u8 = 0;
-    let mut left: u32 = 6;
-    while 0 < left {
-        left -= 1;
+    for left in (0..6u32).rev() {
         value = times(x, value) ^ ((symbols >> (left * 4)) % 16) as u8;
     }
     value
@@ -26,14 +24,7 @@ fn value_at(x: u8, symbols: u32) -> u8
 pub fn sums(symbols: u32) -> [u8; 6]
     ensures { result ≡ six_sums (digits 4 6 symbols) }
 {
-    [
-        value_at(2, symbols),
-        value_at(4, symbols),
-        value_at(8, symbols),
-        value_at(3, symbols),
-        value_at(6, symbols),
-        value_at(12, symbols),
-    ]
+    [2, 4, 8, 3, 6, 12].map(|x| value_at(x, symbols))
 }
 
 // The five numbers that are left of six when a place is taken away.
@@ -50,6 +41,7 @@ pub fn five(s: [u8; 6], x: u8) -> [u8; 5]
 }
 
 // The four that are left of five: with any sixth number behind them, the first four of what is left.
+// No one function for both sizes: the size of what is left would be computed from the other, which the language lacks.
 pub fn four(t: [u8; 5], x: u8) -> [u8; 4]
     ensures { result ≡ take_away x t }
 {
@@ -58,49 +50,31 @@ pub fn four(t: [u8; 5], x: u8) -> [u8; 4]
 }
 
 // The place that four numbers may be the powers of.
+#[tactic(auto, unfolding(crate::specs::Sums::third_of))]
 pub fn third(u: [u8; 4]) -> u8
     ensures { result ≡ third_of u }
 {
-    if u[0] == 0 {
-        return 1;
-    }
-    over(u[1], u[0])
+    if u[0] == 0 { 1 } else { over(u[1], u[0]) }
 }
 
+#[tactic(auto, using(crate::proofs::Tests::three_tests))]
 fn goes_on(x: u8, u: [u8; 4]) -> bool
     ensures { result ≡ goes_on x u }
 {
-    if u[1] != times(x, u[0]) {
-        return false;
-    }
-    if u[2] != times(x, u[1]) {
-        return false;
-    }
-    u[3] == times(x, u[2])
+    u[1] == times(x, u[0]) && u[2] == times(x, u[1]) && u[3] == times(x, u[2])
 }
 
 fn is_apart(x: u8, y: u8, z: u8) -> bool
     ensures { result ≡ apart x y z }
 {
-    if x == 0 {
-        return false;
-    }
-    if x == y {
-        return false;
-    }
-    x != z
+    x != 0 && x != y && x != z
 }
 
 // Whether a third place explains what is left after two are taken away.
+#[tactic(auto, unfolding(crate::specs::Sums::fits))]
 pub fn fit(x: u8, y: u8, u: [u8; 4]) -> bool
     ensures { result ≡ fits x y u }
 {
     let z = third(u);
-    if goes_on(z, u) {
-        if u[0] == 0 {
-            return true;
-        }
-        return is_apart(z, x, y);
-    }
-    false
+    goes_on(z, u) && (u[0] == 0 || is_apart(z, x, y))
 }

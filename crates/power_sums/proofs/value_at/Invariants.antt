@@ -11,6 +11,3 @@ use Rattle.power_sums.proofs.value_at.Given as goal
 abbrev pub invariant-loop-left : goal.invariant-loop-left
 invariant-loop-left l =
     (l.left ≤ 6) × (l.value < 16) × (bit_xor (times l.value (power l.x l.left)) (at l.x (digits 4 l.left l.symbols)) ≡ at l.x (digits 4 6 l.symbols))
-
-abbrev pub decreases-loop-left : goal.decreases-loop-left
-decreases-loop-left l = l.left
