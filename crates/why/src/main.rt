@@ -2,84 +2,53 @@
 // after them.
 #![tactic(auto)]
 
-ghost use Rattle.std.specs.Prelude.{true, ◌≡◌};
-ghost use Rattle.watch.specs.Watches.{watch_proper};
+ghost use Rattle.std.specs.Prelude.{IfOk};
+ghost use Rattle.watch.specs.Watches.{fresh_watch};
 ghost use Rattle.why.specs.Told.{FedOn, Told};
 
 mod report;
 
 use command::asked;
+use console::{Failure, is_done};
 use input::read_bits;
-use record::{Edition, Named};
+use record::Edition;
 use report::say;
 use std::io::Read;
 use watch::{Standing, Watch};
 
-// The watch after some of the input, whether there may be more of it, and whether all reading so far succeeded.
-#[derive(Drop)]
-struct Progress {
-    watch: Watch,
-    more: bool,
-    sound: bool,
-}
-
-// How the time stands after the input, and whether all reading succeeded.
-#[derive(Drop)]
-struct Ending {
-    standing: Standing,
-    sound: bool,
-}
-
-// Reads one large piece of the input and feeds its bits.
-fn read_piece(rt: &impl Eprint, input: &mut impl Read, edition: Edition, start: Watch) -> Progress
-    requires { watch_proper edition start ≡ true }
-    ensures { FedOn edition start result.watch }
+// Feeds piece after piece into a fresh watch, until the input ends or reading fails.
+fn feed_input(input: &mut impl Read, edition: Edition) -> Result<Watch, Failure>
+    ensures { IfOk result (FedOn edition fresh_watch) }
 {
     let mut buffer = [0u8; 65536];
-    let piece = read_bits(rt, input, &mut buffer, "why: standard input");
-    let n = piece.bits;
-    let watched = watch::run(edition, start, &buffer[..n]);
-    let watch = watched.watch;
-    Progress {
-        watch,
-        more: piece.more,
-        sound: piece.sound,
+    let mut watch = watch::fresh();
+    for _ in 0..u64::MAX {
+        let piece = read_bits(input, &mut buffer)?;
+        watch = watch::run(edition, watch, piece.bits).state;
+        if !piece.more {
+            break;
+        }
     }
+    Ok(watch)
 }
 
-// Piece after piece, until the input ends or reading fails.
-fn read_all(rt: &impl Eprint, input: &mut impl Read, edition: Edition) -> Ending
-    ensures { Told edition result.standing }
+// How the time stands after the input. A watch that was fed from a fresh one is never refused.
+fn standing_after(input: &mut impl Read, edition: Edition) -> Result<Standing, Failure>
+    ensures { IfOk result (Told edition) }
 {
-    let watch = watch::fresh();
-    let mut progress = Progress {
-        watch,
-        more: true,
-        sound: true,
-    };
-    let mut turns = u64::MAX;
-    while 0 < turns && progress.more && progress.sound {
-        let watch = progress.watch;
-        progress = read_piece(rt, input, edition, watch);
-        turns -= 1;
-    }
-    let watch = progress.watch;
-    let standing = watch::why(edition, watch);
-    Ending {
-        standing,
-        sound: progress.sound,
-    }
+    let watch = feed_input(input, edition)?;
+    Ok(watch::why(edition, watch).unwrap())
 }
 
-// After a failed read, which was told, nothing is said.
+// After a failed read nothing is said.
+fn say_why(rt: &impl Print, input: &mut impl Read, edition: Edition) -> Result<(), Failure> {
+    say(rt, standing_after(input, edition)?)
+}
+
 fn main(rt: HostRuntime) {
-    let Named::Given(edition) = asked(&rt, "why") else {
+    let Ok(edition) = asked(&rt, "why") else {
         return;
     };
     let mut input = rt.stdin();
-    let ending = read_all(&rt, &mut input, edition);
-    if ending.sound {
-        let standing = ending.standing;
-        say(&rt, standing);
-    }
+    is_done(&rt, "why", say_why(&rt, &mut input, edition));
 }
