@@ -4,9 +4,6 @@ use mir.Facts.{to_z-of_z}
 use Rattle.record.proofs.Offset.{low, high, offset_fits}
 use Rattle.record.proofs.offset_of.Goals as goal
 
-pub overflow_sub-result : goal.overflow_sub-result
-overflow_sub-result c = rw (high _ c.if-six-lt32.false c.requires) (offset_fits _ c.requires)
-
 pub returns-then-six-lt32 : goal.returns-then-six-lt32
 returns-then-six-lt32 c = low _ c.if-six-lt32.true
 

@@ -7,12 +7,6 @@ use Rattle.record.specs.Words.{read_of}
 use Rattle.record.proofs.Reading.{read_fields}
 use Rattle.record.proofs.read_record.Goals as goal
 
-pub no_record-requires : goal.no_record-requires
-no_record-requires c = λ none. c.if-code-word-ne0.true (omega arith)
-
-pub returns-then-code-word-ne0 : goal.returns-then-code-word-ne0
-returns-then-code-word-ne0 c = sym c.no_record.ensures
-
 pub returns-then-is_filler : goal.returns-then-is_filler
 unfolding read_of
 returns-then-is_filler c = rw (eq-eqb c.args.code 0 (omega arith), ← c.is_filler.ensures, c.if-is_filler.true)

@@ -3,14 +3,8 @@
 use Rattle.record.proofs.Offset.{negative, positive}
 use Rattle.record.proofs.six_of.Goals as goal
 
-pub overflow_add-result : goal.overflow_add-result
-overflow_add-result c = (negative c.ranges.offset c.requires c.if-offset-lt0.true).0
-
 pub overflow_cast-result : goal.overflow_cast-result
 overflow_cast-result c = (negative c.ranges.offset c.requires c.if-offset-lt0.true).1.0
-
-pub overflow_cast-result-else-offset-lt0 : goal.overflow_cast-result-else-offset-lt0
-overflow_cast-result-else-offset-lt0 c = (positive c.ranges.offset c.requires c.if-offset-lt0.false).0
 
 pub returns-then-offset-lt0 : goal.returns-then-offset-lt0
 returns-then-offset-lt0 c = (negative c.ranges.offset c.requires c.if-offset-lt0.true).1.1
