@@ -1,10 +1,9 @@
 -- The pairing is chosen by which of two counts is greater.
 -- Assumes nothing.
 use borrow.Author.Tests.{lt-ltb, le-ltb}
-use mathlib.Core.Bool.{Bool, true, false, cond}
 use mathlib.Core.List.{List, [], ◌∷◌}
 use mathlib.Core.Path.{◌≡◌, refl, ap, ◌∙◌}
-use Prim.Native.Nat.{ℕ, suc, ◌+◌, ◌/◌, ◌-◌, ◌<◌, ◌≤◌}
+use Prim.Native.Nat.{ℕ, ◌/◌, ◌-◌, ◌<◌, ◌≤◌}
 use native.Mathlib.Omega.{arith}
 use lib.Ieee.{Float}
 use lib.ListN.{length, take, drop, length-drop}
@@ -17,7 +16,6 @@ use Rattle.halves.specs.Laws.{PairsCounted}
 use Rattle.halves.specs.Pairs.{opposite, count_opposite, start_of, paired, opposite_under}
 use Rattle.halves.specs.declared.Pairing.{Pairing}
 use Rattle.halves.specs.declared.Pairing.TheVariants.{FromFirst, FromSecond}
-use Rattle.halves.specs.declared.Pair.{Pair}
 use Rattle.halves.proofs.TwoByTwo.{pairs_length}
 
 -- how many bits a pairing gives

@@ -35,7 +35,7 @@ impl Pair {
     }
 
     // A doubtful bit goes on as 0 under either polarity.
-    pub fn bit(self, margin: f32, polarity: Polarity) -> u8
+    pub(crate) fn bit(self, margin: f32, polarity: Polarity) -> u8
         ensures { result ≡ bit_of polarity (decision_of margin self) }
     {
         let doubtful = self.is_doubtful(margin);

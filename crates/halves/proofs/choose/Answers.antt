@@ -6,7 +6,6 @@ use Prim.Native.Nat.{ℕ}
 use native.Mathlib.Omega.{arith}
 use lib.Ieee.{Float}
 use lib.ListN.{take, drop}
-use lib.Seq.{length-take-le}
 use Rattle.halves.specs.Pairs.{count_opposite, opposite_under}
 use Rattle.halves.specs.declared.Pairing.TheVariants.{FromSecond}
 use Rattle.halves.proofs.Choosing.{without_first, more_from_first, more_from_second, as_many}
@@ -15,9 +14,6 @@ use Rattle.halves.proofs.choose.Goals as goal
 -- the second count, of the readings without the first
 from_second : (readings : List Float) {second : ℕ} → second ≡ count_opposite (take 63 (drop 1 readings)) → second ≡ opposite_under FromSecond readings
 from_second readings d = d ∙ ap count_opposite (without_first readings)
-
-pub slice_bounds-count_opposite-end : goal.slice_bounds-count_opposite-end
-slice_bounds-count_opposite-end c = sym (length-take-le 64 c.args.readings.now c.requires)
 
 pub returns-then-from_second-from_first : goal.returns-then-from_second-from_first
 returns-then-from_second-from_first c =

@@ -1,6 +1,6 @@
 -- `write_bits` meets its contract. The loop's invariant: the bits written are those that are asked.
 -- Assumes nothing.
-use Rattle.std.proofs.Common.{◌≡◌, ◌≢◌, ◌<◌, ap, ◌∙◌, length, arith, below_more, get_or-set_other, get_or-set_same}
+use Rattle.std.proofs.Common.{◌≢◌, ◌<◌, ap, ◌∙◌, length, arith, below_more, get_or-set_other, get_or-set_same}
 use Rattle.std.proofs.lemmas.List.{ext_get_or}
 use Rattle.halves.specs.Decision.{decision_of, bit_of}
 use Rattle.halves.specs.declared.Pair.{Pair}
