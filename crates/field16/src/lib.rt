@@ -1,4 +1,5 @@
 // The field of sixteen elements, which the symbols of the Polish frame are. Of a larger number the lowest four bits count.
+// No type for an element: product and quotient answer for every number, and only four private functions, here and in wrong_symbols, ask for one below 16.
 #![tactic(auto)]
 
 ghost use Rattle.std.specs.Prelude.{◌≡◌, ◌<◌};
