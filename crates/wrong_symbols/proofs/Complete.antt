@@ -3,6 +3,7 @@
 use mathlib.Core.Bool.{Bool, true, false, cond, true≢false}
 use mathlib.Core.List.{List, [], ◌∷◌}
 use mathlib.Core.Path.{◌≡◌, refl, sym, ap, ◌∙◌, subst}
+use Rattle.std.specs.Prelude.{None}
 use Prim.Native.Nat.{ℕ, zero, suc, ◌<◌, ◌≤◌}
 use borrow.Author.Tests.{eq-eqb, ne_eqb}
 use native.Mathlib.Omega.{arith}
@@ -82,7 +83,7 @@ refuted false f = refl
 pub true_false : {q : Bool} → q ≡ true → q ≡ false → ⊥
 true_false e f = true≢false (sym e ∙ f)
 
-module _ (x : ℕ) (w : List ℕ) (l : length w ≡ 15) (other : (p : ℕ) → 0 < symbol_at p w → a_to p ≡ x → ⊥) (missing : Second (sums_from 1 5 w) x 0) where
+module _ (x : ℕ) (w : List ℕ) (l : length w ≡ 15) (other : (p : ℕ) → 0 < symbol_at p w → a_to p ≡ x → ⊥) (missing : Second (sums_from 1 5 w) x None) where
   -- a second place that leaves one symbol at most is not missed
   not_missed : (z : ℕ) → 0 < z → z < 16 → (z ≡ x → ⊥) → weight (away z w) ≤ 1 → ⊥
   not_missed z pz hz f few =
@@ -90,7 +91,7 @@ module _ (x : ℕ) (w : List ℕ) (l : length w ≡ 15) (other : (p : ℕ) → 0
       (ap (fits x z) (sums_away z 1 4 w)
       ∙ third_fits x z (away z w) (omega (arith, length_away z w)) (symbols_away z w) few
       (λ p alive. (other p (alive_before p z w alive), alive_other p z w alive)) (pick (away z w)))
-      (missing.none refl z pz hz f)
+      (missing z pz hz f)
 
   second_missed : weight w ≤ 2 → Pick w → ⊥
   second_missed few (none e) = elsewhere x refl
@@ -102,11 +103,11 @@ module _ (x : ℕ) (w : List ℕ) (l : length w ≡ 15) (other : (p : ℕ) → 0
   second_missed few (place p h alive less) = not_missed (a_to p) (power_pos 2 p (omega arith) (omega arith)) (power_lt 2 p) (other p alive) (omega arith)
 
 -- so with three symbols at most a pair of places is found
-module _ (w : List ℕ) (l : length w ≡ 15) (missing : (z : ℕ) → 0 < z → z < 16 → Second (take_away z (six_sums w)) z 0) where
+module _ (w : List ℕ) (l : length w ≡ 15) (missing : (z : ℕ) → 0 < z → z < 16 → Second (take_away z (six_sums w)) z None) where
   first_missed : (z : ℕ) → 0 < z → z < 16 → weight (away z w) ≤ 2 → ⊥
   first_missed z pz hz few =
       second_missed z (away z w) (length_away z w ∙ l) (λ p alive. alive_other p z w alive)
-      (subst (λ (t : List ℕ). Second t z 0) (sums_away z 1 5 w) (missing z pz hz)) few (pick (away z w))
+      (subst (λ (t : List ℕ). Second t z None) (sums_away z 1 5 w) (missing z pz hz)) few (pick (away z w))
 
   by_pick : weight w ≤ 3 → Pick w → ⊥
   by_pick few (none e) = first_missed 1 (omega arith) (omega arith) (omega (arith, weight_le 1 w))

@@ -1,6 +1,7 @@
 -- Two results that a contract allows for the same input are equal: words of at most three symbols differ in at most six, so their power sums tell them
 -- apart.
 -- Assumes nothing.
+use Rattle.std.specs.Prelude.{Option, Some, None}
 use mathlib.Core.List.{List}
 use mathlib.Core.Path.{◌≡◌, refl, sym, ap, ◌∙◌}
 use Prim.Native.Nat.{ℕ}
@@ -13,8 +14,6 @@ use Rattle.field16.proofs.Distance.{weight_xors, same_word}
 use Rattle.power_sums.specs.Sums.{six_sums}
 use Rattle.power_sums.proofs.Lists.{six_at}
 use Rattle.wrong_symbols.specs.Explained.{Mistakes, Explains}
-use Rattle.wrong_symbols.specs.declared.Explained.{Explained}
-use Rattle.wrong_symbols.specs.declared.Explained.TheVariants.{Wrong, TooMany}
 use Rattle.wrong_symbols.proofs.explain.Reads as explain
 
 same_mistakes : (s : List ℕ) (m n : ℕ) → Mistakes s m → Mistakes s n → m ≡ n
@@ -25,11 +24,11 @@ same_mistakes s m n p q =
     (same_word u v (length_digits 4 15 m) (length_digits 4 15 n) (symbols_digits 15 m) (symbols_digits 15 n)
     (omega (arith, weight_xors u v, p.few, q.few)) (six_at u v (p.sums ∙ sym q.sums)))
 
-explained_once : (six : List ℕ) (x y : Explained) → Explains six x → Explains six y → x ≡ y
-explained_once six (Wrong m) (Wrong n) p q = ap Wrong (same_mistakes (six_sums six) m n p q)
-explained_once six (Wrong m) TooMany p q = absurd (q (digits 4 15 m) (length_digits 4 15 m) p.few p.sums)
-explained_once six TooMany (Wrong n) p q = absurd (p (digits 4 15 n) (length_digits 4 15 n) q.few q.sums)
-explained_once six TooMany TooMany p q = refl
+explained_once : (six : List ℕ) (x y : Option ℕ) → Explains six x → Explains six y → x ≡ y
+explained_once six (Some m) (Some n) p q = ap Some (same_mistakes (six_sums six) m n p q)
+explained_once six (Some m) None p q = absurd (q (digits 4 15 m) (length_digits 4 15 m) p.few p.sums)
+explained_once six None (Some n) p q = absurd (p (digits 4 15 n) (length_digits 4 15 n) q.few q.sums)
+explained_once six None None p q = refl
 
 pub explain_determined : Determined explain.Post
 explain_determined κs a x y s t p q = explained_once _ x y p q

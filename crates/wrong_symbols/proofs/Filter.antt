@@ -1,6 +1,6 @@
 -- Five numbers that two places make follow a rule of second order, so the minors are some d, d times the places' sum and d times their product.
 -- Assumes nothing.
-use mathlib.Core.Bool.{true, ◌||◌, and-eq-true_iff}
+use mathlib.Core.Bool.{true, false, ◌||◌, and-eq-true_iff}
 use mathlib.Core.List.{List, [], ◌∷◌}
 use mathlib.Core.Path.{◌≡◌, sym, ap, ap₂, ◌∙◌, subst, subst⁻¹}
 use Prim.Native.Nat.{ℕ}
@@ -15,6 +15,8 @@ use Rattle.field16.proofs.Entries.{written_out}
 use Rattle.field16.proofs.Words.{xor_twice, times_swap}
 use Rattle.power_sums.specs.Sums.{take_away, goes_on, third_of, apart, fits}
 use Rattle.wrong_symbols.specs.Search.{minor_of, minors_of, two_places, may_be}
+use Rattle.wrong_symbols.specs.declared.search.Minors.{Minors}
+use Rattle.wrong_symbols.proofs.Complete.{refuted, true_false}
 
 -- what goes on by z after y was taken away follows the rule with y + z and y z
 rule : (y z a b c : ℕ) → bit_xor c (times y b) ≡ times z (bit_xor b (times y a)) → c ≡ bit_xor (times (bit_xor y z) b) (times (times y z) a)
@@ -122,3 +124,10 @@ passes x y t l f =
     subst⁻¹ (λ (w : List ℕ). Passes w y) e
     (five_pass y z (get_or t 0 0) (get_or t 1 0) (get_or t 2 0) (get_or t 3 0) (get_or t 4 0)
     (subst (λ (w : List ℕ). goes_on z (take_away y w) ≡ true) e ((and-eq-true_iff (goes_on z u) (eqb (get_or u 0 0) 0 || apart z x y)).0 f).0))
+
+-- so where a test fails nothing fits
+pub no_root : (x y : ℕ) (t : List ℕ) (m : Minors) → m ≡ minors_of t → length t ≡ 5 → may_be m y ≡ false → fits x y (take_away y t) ≡ false
+no_root x y t m e l f = refuted (fits x y (take_away y t)) (λ g. true_false (ap (λ (m : Minors). may_be m y) e ∙ (passes x y t l g).may) f)
+
+pub no_two : (x y : ℕ) (t : List ℕ) (m : Minors) → m ≡ minors_of t → length t ≡ 5 → two_places t m ≡ false → fits x y (take_away y t) ≡ false
+no_two x y t m e l f = refuted (fits x y (take_away y t)) (λ g. true_false (ap (two_places t) e ∙ (passes x y t l g).two) f)

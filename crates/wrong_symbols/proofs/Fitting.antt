@@ -10,7 +10,6 @@ use lib.Dec.{eqb}
 use lib.ListN.{get_or}
 use Rattle.field16.proofs.Distance.{positive}
 use Rattle.power_sums.specs.Sums.{goes_on, third_of, apart, fits}
-use Rattle.wrong_symbols.specs.Search.{Pair, Found}
 use Rattle.wrong_symbols.proofs.Complete.{true_false}
 
 -- what is known where four numbers fit
@@ -47,9 +46,3 @@ third_pos x y u f = by (fitting x y u f)
     by : Fitting x y (third_of u) u → 0 < third_of u
     by (empty e g) = omega arith
     by (third p g h) = p
-
-pub found : (s : List ℕ) (x y : ℕ) → 0 < x → Pair s x y → Found s x y
-found s x y p q =
-    let r = q.some (λ e. omega arith) in
-    let t = r.2.some r.1 in
-    record { first = r.0; some = positive y r.1; second = t.0; differ = t.1; fit = t.2 }

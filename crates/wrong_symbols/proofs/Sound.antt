@@ -21,6 +21,7 @@ use Rattle.power_sums.specs.Sums.{sums_from, six_sums, take_away, goes_on, third
 use Rattle.power_sums.proofs.Lists.{symbols_get_or, symbols_take_away, third_lt, sums_away, length_take_away, length_sums}
 use Rattle.wrong_symbols.specs.Search.{Single, last_of, middle_of, first_of, Found}
 use Rattle.wrong_symbols.specs.Explained.{Mistakes}
+use Rattle.wrong_symbols.specs.declared.search.Places.{Places}
 use Rattle.wrong_symbols.proofs.Filter.{goes_on_lem}
 use Rattle.wrong_symbols.proofs.Terms.{term_gone, value_away, once, twice}
 use Rattle.wrong_symbols.proofs.Fitting.{fitting, third_pos}
@@ -128,8 +129,14 @@ module _ (x y z a b c k m n : ℕ) (p : Single x a k) (q : Single y b m) (r : Si
       ∙ ap₂ bit_xor (p.values j) (at_xors (a_to j) e f (le ∙ sym lf) ∙ ap₂ bit_xor (q.values j) (r.values j))
 
 -- the symbols at two places that were found and at their third, computed as the search does
-module _ (s t u : List ℕ) (x y z : ℕ) (l : length s ≡ 6) (symbols : Symbols s) (px : 0 < x) (f : Found s x y)
-    (five : t ≡ take_away x s) (four : u ≡ take_away y t) (third-is : z ≡ third_of u) where
+module _ (s t u : List ℕ) (places : Places) (z : ℕ) (l : length s ≡ 6) (symbols : Symbols s) (f : Found s places)
+    (five : t ≡ take_away places.first s) (four : u ≡ take_away places.second t) (third-is : z ≡ third_of u) where
+  abbrev x : ℕ
+  x = places.first
+
+  abbrev y : ℕ
+  y = places.second
+
   pub third_place : z ≡ third_of (take_away y (take_away x s))
   third_place = third-is ∙ ap third_of (four ∙ ap (take_away y) five)
 
@@ -142,7 +149,7 @@ module _ (s t u : List ℕ) (x y z : ℕ) (l : length s ≡ 6) (symbols : Symbol
       record {
         fits = xor_lt 60 k (bit_xor m n) p.fits (xor_lt 60 m n q.fits r.fits);
         few = three_few x y z a b c k m n p q r;
-        sums = right_sums s x y l symbols px f.first f.some f.second f.differ f.fit a b c (digits 4 15 (bit_xor k (bit_xor m n)))
+        sums = right_sums s x y l symbols f.first.0 f.first.1 f.second.0 f.second.1 f.differ f.fit a b c (digits 4 15 (bit_xor k (bit_xor m n)))
             (λ j. three_values x y z a b c k m n p q r j ∙ ap (λ (w : ℕ). bit_xor (times a (power x j)) (bit_xor (times b (power y j)) (times c (power w j)))) third_place)
             (ha ∙ ap (λ (w : ℕ). first_of x y w (get_or s 0 0) b c) third_place)
             (hb ∙ ap₂ (λ (w : ℕ) (v : List ℕ). middle_of x y w (get_or v 0 0) c) third_place five)

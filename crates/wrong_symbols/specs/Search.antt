@@ -1,30 +1,30 @@
 -- How the wrong symbols are found. Only private contracts name these; what is found is said by `Explains`.
 -- Assumes nothing.
-use Rattle.std.specs.Prelude.{Bool, true, false, List, ◌≡◌, ℕ, ◌≤◌, ◌<◌, ◌^◌, eqb, get_or}
+use Rattle.std.specs.Prelude.{Bool, true, false, List, ◌≡◌, ℕ, ◌≤◌, ◌<◌, ◌^◌, eqb, get_or, Option, Some, None}
 use Rattle.std.specs.Int.Bits.{bit_xor}
 use Rattle.field16.specs.Words.{a_to, at, weight}
 use Rattle.big_endian.specs.Digits.{digits}
 use Rattle.field16.specs.Field.{times, power, inverse_of}
 use Rattle.power_sums.specs.Sums.{take_away, fits}
 use Rattle.wrong_symbols.specs.declared.search.Minors.{Minors}
+use Rattle.wrong_symbols.specs.declared.search.Places.{Places}
 
--- a second place beside x, 0 for none: what is left of t without it fits
-pub record Second (t : List ℕ) (x y : ℕ) : Type 0 where
-  pub none : y ≡ 0 → (z : ℕ) → 0 < z → z < 16 → (z ≡ x → ⊥) → fits x z (take_away z t) ≡ false
-  pub some : (y ≡ 0 → ⊥) → (y < 16) × (y ≡ x → ⊥) × (fits x y (take_away y t) ≡ true)
-
--- a first and a second place, 0 and 0 for none
-pub record Pair (s : List ℕ) (x y : ℕ) : Type 0 where
-  pub none : x ≡ 0 → (z : ℕ) → 0 < z → z < 16 → Second (take_away z s) z 0
-  pub some : (x ≡ 0 → ⊥) → (x < 16) × (y ≡ 0 → ⊥) × Second (take_away x s) x y
+-- a second place beside x, where there is one: what is left of t without it fits
+abbrev pub Second : List ℕ → ℕ → Option ℕ → Type 0
+Second t x None = (z : ℕ) → 0 < z → z < 16 → (z ≡ x → ⊥) → fits x z (take_away z t) ≡ false
+Second t x (Some y) = (0 < y) × (y < 16) × (y ≡ x → ⊥) × (fits x y (take_away y t) ≡ true)
 
 -- two places that were found
-pub record Found (s : List ℕ) (x y : ℕ) : Type 0 where
-  pub first : x < 16
-  pub some : 0 < y
-  pub second : y < 16
-  pub differ : y ≡ x → ⊥
-  pub fit : fits x y (take_away y (take_away x s)) ≡ true
+pub record Found (s : List ℕ) (places : Places) : Type 0 where
+  pub first : (0 < places.first) × (places.first < 16)
+  pub second : (0 < places.second) × (places.second < 16)
+  pub differ : places.second ≡ places.first → ⊥
+  pub fit : fits places.first places.second (take_away places.second (take_away places.first s)) ≡ true
+
+-- a first and a second place, where there are any
+abbrev pub Pair : List ℕ → Option Places → Type 0
+Pair s None = (z : ℕ) → 0 < z → z < 16 → Second (take_away z s) z None
+Pair s (Some places) = Found s places
 
 -- the minors of five numbers t0 to t4. Where two places make the numbers, they are some d, d times the places' sum, and d times their product
 unfoldable pub minor_of : ℕ → ℕ → ℕ → ℕ → ℕ

@@ -11,21 +11,11 @@ use mending::mistakes;
 use power_sums::sums;
 use search::find_places;
 
-// What explains six symbols that are missed: wrong symbols in a word of fifteen, one number, or more of them than three.
-#[derive(Drop)]
-pub enum Explained {
-    Wrong(u64),
-    TooMany,
-}
-
-// The wrong symbols that have the power sums of six symbols.
-pub fn explain(missed: u32) -> Explained
+// The wrong symbols of a word of fifteen that have the power sums of six symbols which are missed, in one number: none where they are more than three.
+pub fn explain(missed: u32) -> Option<u64>
     ensures { Explains (digits 4 6 missed) result }
 {
     let s = sums(missed);
-    let pair = find_places(s);
-    if pair.first == 0 {
-        return Explained::TooMany;
-    }
-    Explained::Wrong(mistakes(s, pair.first, pair.second))
+    let places = find_places(s)?;
+    Some(mistakes(s, places))
 }

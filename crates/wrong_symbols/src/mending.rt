@@ -4,6 +4,7 @@ ghost use Rattle.field16.specs.Words.{a_to, Symbols};
 ghost use Rattle.wrong_symbols.specs.Explained.{Mistakes};
 ghost use Rattle.wrong_symbols.specs.Search.{Found, Single, last_of, middle_of, first_of};
 
+use crate::search::Places;
 use field16::{over, times};
 use power_sums::{five, four, third};
 
@@ -45,10 +46,12 @@ fn first_of(x: u8, y: u8, z: u8, s: u8, middle: u8, last: u8) -> u8
 }
 
 // The wrong symbols at two places and a third.
-pub fn mistakes(s: [u8; 6], x: u8, y: u8) -> u64
-    requires { Symbols s × (0 < x) × Found s x y }
+pub fn mistakes(s: [u8; 6], places: Places) -> u64
+    requires { Symbols s × Found s places }
     ensures { Mistakes s result }
 {
+    let x = places.first;
+    let y = places.second;
     let t = five(s, x);
     let u = four(t, y);
     let z = third(u);

@@ -43,58 +43,45 @@ fn may_be(m: Minors, y: u8) -> bool
 }
 
 // Whether y is a second place beside x.
+#[tactic(auto, using(crate::proofs::Filter::no_root))]
 fn is_second(t: [u8; 5], m: Minors, x: u8, y: u8) -> bool
     requires { m ≡ minors_of t }
     ensures { result ≡ not (eqb x y) && fits x y (take_away y t) }
 {
-    if x == y {
-        return false;
-    }
-    if may_be(m, y) {
-        return fit(x, y, four(t, y));
-    }
-    false
+    x != y && may_be(m, y) && fit(x, y, four(t, y))
 }
 
-fn second(t: [u8; 5], x: u8) -> u8
+#[tactic(auto, using(crate::proofs::Filter::no_two))]
+fn second(t: [u8; 5], x: u8) -> Option<u8>
     ensures { Second t x result }
 {
     let m = minors_in(t);
-    if two_places(t, m) {
-        let mut y: u8 = 1;
-        while y < 16 {
-            if is_second(t, m, x, y) {
-                return y;
-            }
-            y += 1;
+    if !two_places(t, m) {
+        return None;
+    }
+    for y in 1..16u8 {
+        if is_second(t, m, x, y) {
+            return Some(y);
         }
     }
-    0
+    None
 }
 
-// Two places of the wrong symbols, 0 and 0 where there are more than three.
-#[derive(Drop)]
+// Two places of the wrong symbols.
+#[derive(Clone, Copy)]
 pub struct Places {
     pub first: u8,
     pub second: u8,
 }
 
-pub fn find_places(s: [u8; 6]) -> Places
-    ensures { Pair s result.first result.second }
+// None where there are more than three.
+pub fn find_places(s: [u8; 6]) -> Option<Places>
+    ensures { Pair s result }
 {
-    let mut x: u8 = 1;
-    while x < 16 {
-        let y = second(five(s, x), x);
-        if y != 0 {
-            return Places {
-                first: x,
-                second: y,
-            };
+    for first in 1..16u8 {
+        if let Some(second) = second(five(s, first), first) {
+            return Some(Places { first, second });
         }
-        x += 1;
     }
-    Places {
-        first: 0,
-        second: 0,
-    }
+    None
 }

@@ -20,20 +20,18 @@ small n a b e = omega (arith, times_lt a b)
 
 pub symbol_at-requires : goal.symbol_at-requires
 symbol_at-requires c =
-    let a = c.args in
-    (c.requires.1, c.requires.2.first, small _ _ _ c.first_of-first.ensures)
+    let f = c.requires.1 in
+    (f.first.0, f.first.1, small _ _ _ c.first_of-first.ensures)
 
 pub symbol_at-requires-2 : goal.symbol_at-requires-2
 symbol_at-requires-2 c =
-    let a = c.args in
-    let f = c.requires.2 in
-    (f.some, f.second, small _ _ _ c.middle_of-middle.ensures)
+    let f = c.requires.1 in
+    (f.second.0, f.second.1, small _ _ _ c.middle_of-middle.ensures)
 
 pub symbol_at-requires-3 : goal.symbol_at-requires-3
 symbol_at-requires-3 c =
-    let a = c.args in
-    let f = c.requires.2 in (
-      third_some a.s c.five-t.result c.four-u.result a.x a.y c.third-z.result (omega arith) c.requires.0 c.requires.1 f
+    let a = c.args in (
+      third_some a.s c.five-t.result c.four-u.result a.places c.third-z.result (omega arith) c.requires.0 c.requires.1
           c.five-t.ensures c.four-u.ensures c.third-z.ensures,
       third_small c.four-u.result c.third-z.result c.third-z.ensures,
       small _ _ _ c.last_of-last.ensures,
@@ -42,7 +40,7 @@ symbol_at-requires-3 c =
 pub returns : goal.returns
 returns c =
     let a = c.args in
-    mistaken a.s c.five-t.result c.four-u.result a.x a.y c.third-z.result (omega arith) c.requires.0 c.requires.1
-    c.requires.2 c.five-t.ensures c.four-u.ensures c.third-z.ensures
+    mistaken a.s c.five-t.result c.four-u.result a.places c.third-z.result (omega arith) c.requires.0 c.requires.1
+    c.five-t.ensures c.four-u.ensures c.third-z.ensures
     c.first_of-first.result c.middle_of-middle.result c.last_of-last.result c.symbol_at.result c.symbol_at-2.result c.symbol_at-3.result
     c.symbol_at.ensures c.symbol_at-2.ensures c.symbol_at-3.ensures c.first_of-first.ensures c.middle_of-middle.ensures c.last_of-last.ensures
