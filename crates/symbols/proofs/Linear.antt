@@ -1,20 +1,18 @@
 -- The check symbols are linear: two codewords added are a codeword, and nine symbols have only one with them.
 -- Assumes nothing.
-use mathlib.Core.Bool.{Bool, ◌&&◌}
+use mathlib.Core.Bool.{Bool}
 use mathlib.Core.List.{List, [], ◌∷◌, ◌++◌}
 use mathlib.Core.Path.{◌≡◌, refl, sym, ap, ap₂, ◌∙◌, subst}
-use Prim.Native.Nat.{ℕ, suc, ◌+◌, ◌*◌, ◌/◌, ◌%◌, ◌^◌, ◌<◌, ◌≤◌}
-use native.Mathlib.Nat.{mod-lt, mul_assoc}
+use Prim.Native.Nat.{ℕ, ◌+◌, ◌*◌, ◌/◌, ◌%◌, ◌^◌, ◌<◌, ◌≤◌}
+use native.Mathlib.Nat.{mod-lt}
 use native.Mathlib.Omega.{arith}
-use lib.Bits.{bit_xor, xor_lt, xor_shifted, xor_block}
-use lib.Dec.{T, eqb, ltb, eqb→eq, ltb→lt}
-use lib.ListN.{length, take, drop, take-append-drop, length-drop}
+use lib.Bits.{bit_xor, xor_zero_r, xor_comm, xor_lt, xor_shifted}
+use lib.Dec.{T, eqb, eqb→eq}
+use lib.ListN.{get_or, length, take, drop, take-append-drop, length-drop}
 use lib.Pow.{mod-pow-add, pow_pos}
 use lib.Seq.{take_at, drop-append_seam}
-use mir.Facts.{and_yes}
 use Rattle.block.specs.Bits.{xors}
-use Rattle.block.proofs.Xor.{on_bit}
-use Rattle.block.proofs.Below.{at_below}
+use Rattle.block.proofs.Below.{below, at_below}
 use Rattle.block.proofs.Strings.{length_xors}
 use Rattle.field16.specs.Words.{Symbols, a_to, weight}
 use Rattle.big_endian.specs.Digits.{digits, number}
@@ -81,52 +79,33 @@ checked_xor m n c d p q =
           ∙ ap checks_of (sym (digits_xor 4 9 m n));
     }
 
-checked_zero : Checked 0 0
+pub checked_zero : Checked 0 0
 unfolding digits encode_from
 checked_zero = record { small = omega arith; are = refl }
 
--- a bit asks for its number or for nothing
-pub checked_bit : (b n c : ℕ) → b < 2 → Checked n c → Checked (b * n) (b * c)
-checked_bit b n c h p =
-    let one : 1 * n ≡ n = omega arith in
-    let two : 1 * c ≡ c = omega arith in
-    on_bit (λ b. Checked (b * n) (b * c)) (zero_times n c) (rw (one, two) p) b h
-  where
-    zero_times : (n c : ℕ) → Checked (0 * n) (0 * c)
-    zero_times n c =
-        let z : 0 * n ≡ 0 = omega arith in
-        let y : 0 * c ≡ 0 = omega arith in
-        rw (z, y) checked_zero
+-- one bit more asks for its number, or for nothing
+module _ (n k c : ℕ) (p : Checked (n % 2 ^ k) c) where
+  low : ℕ
+  low = n % 2 ^ k
 
--- four bits in one symbol, moved up
-xor_moved : (a b k : ℕ) → bit_xor (a * 2 ^ k) (b * 2 ^ k) ≡ bit_xor a b * 2 ^ k
-xor_moved a b k =
-    let e : (n : ℕ) → n * 2 ^ k ≡ n * 2 ^ k + 0 = λ n. omega arith in
-    ap₂ bit_xor (e a) (e b) ∙ xor_block k a b 0 0 (pow_pos k) (pow_pos k) ∙ sym (e (bit_xor a b))
+  -- the bit stands above the others
+  joined : (b : ℕ) → n / 2 ^ k % 2 ≡ b → n % 2 ^ (k + 1) ≡ bit_xor low (b * 2 ^ k)
+  unfolding low
+  joined b e =
+      let next : 1 + k ≡ k + 1 = omega arith in
+      ap (λ (m : ℕ). n % 2 ^ m) (sym next) ∙ mod-pow-add n 1 k ∙ sym (xor_shifted (n / 2 ^ k % 2) k low (mod-lt n (pow_pos k)))
+      ∙ xor_comm (n / 2 ^ k % 2 * 2 ^ k) low ∙ ap (λ (b : ℕ). bit_xor low (b * 2 ^ k)) e
 
-four_bits : (y : ℕ) → y < 16 → bit_xor (y % 2) (bit_xor (y / 2 % 2 * 2) (bit_xor (y / 4 % 2 * 4) (y / 8 * 8))) ≡ y
-four_bits y h =
-    eqb→eq (bit_xor (y % 2) (bit_xor (y / 2 % 2 * 2) (bit_xor (y / 4 % 2 * 4) (y / 8 * 8)))) y
-    (at_below 16 (λ y. eqb (bit_xor (y % 2) (bit_xor (y / 2 % 2 * 2) (bit_xor (y / 4 % 2 * 4) (y / 8 * 8)))) y) tt y h)
+  pub bit_set : (asks : ℕ) → Checked (2 ^ k) asks → n / 2 ^ k % 2 ≡ 1 → Checked (n % 2 ^ (k + 1)) (bit_xor c asks)
+  unfolding low
+  bit_set asks q e = let one : 1 * 2 ^ k ≡ 2 ^ k = omega arith in rw (joined 1 e, one) (checked_xor low (2 ^ k) c asks p q)
 
-pub moved_bits : (y k : ℕ) → y < 16
-    → bit_xor (y % 2 * 2 ^ k) (bit_xor (y / 2 % 2 * (2 * 2 ^ k)) (bit_xor (y / 4 % 2 * (4 * 2 ^ k)) (y / 8 * (8 * 2 ^ k)))) ≡ y * 2 ^ k
-moved_bits y k h =
-    let P : ℕ = 2 ^ k in
-    let i : y / 2 % 2 * (2 * P) ≡ y / 2 % 2 * 2 * P = sym (mul_assoc (y / 2 % 2) 2 P) in
-    let j : y / 4 % 2 * (4 * P) ≡ y / 4 % 2 * 4 * P = sym (mul_assoc (y / 4 % 2) 4 P) in
-    let l : y / 8 * (8 * P) ≡ y / 8 * 8 * P = sym (mul_assoc (y / 8) 8 P) in
-    rw (i, j, l)
-    (ap (bit_xor (y % 2 * P)) (ap (bit_xor (y / 2 % 2 * 2 * P)) (xor_moved (y / 4 % 2 * 4) (y / 8 * 8) k) ∙ xor_moved (y / 2 % 2 * 2) (bit_xor (y / 4 % 2 * 4) (y / 8 * 8)) k)
-    ∙ xor_moved (y % 2) (bit_xor (y / 2 % 2 * 2) (bit_xor (y / 4 % 2 * 4) (y / 8 * 8))) k ∙ ap (λ (n : ℕ). n * P) (four_bits y h))
-
--- one symbol more
-pub checked_join : (n k c d : ℕ) → Checked (n / 2 ^ (k * 4) % 16 * 2 ^ (k * 4)) c → Checked (n % 2 ^ (k * 4)) d → Checked (n % 2 ^ (suc k * 4)) (bit_xor c d)
-checked_join n k c d p q =
-    let e : 4 + k * 4 ≡ suc k * 4 = omega arith in
-    let j : bit_xor (n / 2 ^ (k * 4) % 16 * 2 ^ (k * 4)) (n % 2 ^ (k * 4)) ≡ n % 2 ^ (suc k * 4) =
-    xor_shifted (n / 2 ^ (k * 4) % 16) (k * 4) (n % 2 ^ (k * 4)) (mod-lt n (pow_pos (k * 4))) ∙ sym (mod-pow-add n 4 (k * 4)) ∙ ap (λ (m : ℕ). n % 2 ^ m) e in
-    subst (λ (m : ℕ). Checked m (bit_xor c d)) j (checked_xor (n / 2 ^ (k * 4) % 16 * 2 ^ (k * 4)) (n % 2 ^ (k * 4)) c d p q)
+  pub bit_clear : (n / 2 ^ k % 2 ≡ 1 → ⊥) → Checked (n % 2 ^ (k + 1)) c
+  unfolding low
+  bit_clear f =
+      let none : 0 * 2 ^ k ≡ 0 = omega arith in
+      let zero? : n / 2 ^ k % 2 ≡ 0 = omega arith in
+      rw (joined 0 zero?, none, xor_zero_r low) p
 
 -- and only the lowest nine count
 pub checked_low : (n c : ℕ) → Checked (n % 2 ^ 36) c → Checked n c
@@ -135,17 +114,6 @@ checked_low n c p = record { small = p.small; are = p.are ∙ ap checks_of (digi
 -- a number is the check symbols of another
 abbrev is_asked : ℕ → ℕ → Bool
 is_asked n c = eqb c (number 4 (checks_of (digits 4 9 n)))
-
--- the four numbers of a place are what its bits ask for: one test that the checker computes
-unfoldable pub row_right : ℕ → ℕ → ℕ → ℕ → ℕ → Bool
-unfolding digits number encode_from
-row_right place one two four eight =
-    let asks = 2 ^ (place * 4) in
-    ltb place 9 && (is_asked asks one && (is_asked (2 * asks) two && (is_asked (4 * asks) four && is_asked (8 * asks) eight)))
-
-abbrev pub Row : ℕ → ℕ → ℕ → ℕ → ℕ → Type 0
-Row place one two four eight =
-    (place < 9) × Checked (2 ^ (place * 4)) one × Checked (2 * 2 ^ (place * 4)) two × Checked (4 * 2 ^ (place * 4)) four × Checked (8 * 2 ^ (place * 4)) eight
 
 -- the check symbols as one number
 pub checked_number : (n : ℕ) → Checked n (number 4 (checks_of (digits 4 9 n)))
@@ -161,20 +129,11 @@ checked_number n =
 asked_is : (n c : ℕ) → T (is_asked n c) → Checked n c
 asked_is n c t = subst (Checked n) (sym (eqb→eq c (number 4 (checks_of (digits 4 9 n))) t)) (checked_number n)
 
-pub row : (place one two four eight : ℕ) → T (row_right place one two four eight) → Row place one two four eight
-unfolding row_right
-row place one two four eight t =
-    let n = 2 ^ (place * 4) in
-    let third = is_asked (2 * n) two in
-    let fourth = is_asked (4 * n) four in
-    let last = is_asked (8 * n) eight in
-    let t1 = and_yes (ltb place 9) (is_asked n one && (third && (fourth && last))) t in
-    let t2 = and_yes (is_asked n one) (third && (fourth && last)) t1.1 in
-    let t3 = and_yes third (fourth && last) t2.1 in
-    let t4 = and_yes fourth last t3.1 in (
-      ltb→lt place 9 t1.0,
-      asked_is n one t2.0,
-      asked_is (2 * n) two t3.0,
-      asked_is (4 * n) four t4.0,
-      asked_is (8 * n) eight t4.1,
-    )
+-- the numbers of all the places are what their bits ask for: one test that the checker computes
+unfoldable pub all_asked : List ℕ → Bool
+unfolding digits number encode_from
+all_asked numbers = below 36 (λ k. is_asked (2 ^ k) (get_or numbers k 0))
+
+pub asked : (numbers : List ℕ) → T (all_asked numbers) → (k : ℕ) → k < 36 → Checked (2 ^ k) (get_or numbers k 0)
+unfolding all_asked
+asked numbers t k h = asked_is (2 ^ k) (get_or numbers k 0) (at_below 36 (λ k. is_asked (2 ^ k) (get_or numbers k 0)) t k h)

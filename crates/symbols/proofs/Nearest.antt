@@ -1,6 +1,7 @@
 -- A word and what its check symbols miss have the same power sums, so what explains these takes the word to a codeword, and a codeword near
 -- the word would explain them.
 -- Assumes nothing.
+use Rattle.std.specs.Prelude.{None}
 use mathlib.Core.List.{List, ◌++◌}
 use mathlib.Core.Path.{◌≡◌, sym, ap, ◌∙◌, subst}
 use Prim.Native.Nat.{ℕ, ◌/◌, ◌%◌, ◌^◌}
@@ -20,7 +21,6 @@ use Rattle.field16.proofs.Words.{at_append, symbols_xors, at_xors}
 use Rattle.power_sums.specs.Sums.{six_sums}
 use Rattle.power_sums.proofs.Lists.{sums_same, six_at}
 use Rattle.wrong_symbols.specs.Explained.{Mistakes, Explains}
-use Rattle.wrong_symbols.specs.declared.Explained.TheVariants.{TooMany}
 use Rattle.symbols.specs.Code.{Codeword, differing, Near, checks_of}
 use Rattle.symbols.proofs.Encoder.{encoded, length_checks}
 use Rattle.symbols.proofs.Unique.{differing_self, differing_weight}
@@ -101,7 +101,7 @@ module _ (word : ℕ) where
         })
 
     -- where no three symbols explain the sums, no codeword is near
-    pub none_near : Explains (digits 4 6 (bit_xor checks (received % 2 ^ 24))) TooMany → (c : List ℕ) → Near (digits 4 15 word) c → ⊥
+    pub none_near : Explains (digits 4 6 (bit_xor checks (received % 2 ^ 24))) None → (c : List ℕ) → Near (digits 4 15 word) c → ⊥
     none_near none c q =
         let w : List ℕ = digits 4 15 word in
         let lw : length w ≡ 15 = length_digits 4 15 word in
