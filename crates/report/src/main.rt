@@ -1,70 +1,34 @@
 // The reception report of one journal, read from standard input.
 #![tactic(auto)]
 
-ghost use Rattle.std.specs.Prelude.{◌≡◌, ◌≤◌, length};
-ghost use Rattle.console.specs.Counts.{IsPrefixLen};
+ghost use Rattle.std.specs.Prelude.{◌≡◌, ◌≤◌, length, IfOk};
 
 mod lines;
 
 use command::asked;
-use console::fail;
+use console::{Failure, is_done};
 use lines::{refused, say};
-use reception::{Outcome, Report};
-use record::{Edition, Named};
+use reception::Report;
+use record::Edition;
 use std::io::{ErrorKind, Read};
 
-// What one read brought: how many bytes, whether there may be more, and whether it succeeded.
-#[derive(Drop)]
-struct Taken {
-    bytes: usize,
-    more: bool,
-    sound: bool,
-}
-
-// An interrupted read is taken up again; any other failure is told.
-fn take(rt: &impl Eprint, input: &mut impl Read, rest: &mut [u8]) -> Taken
-    ensures { result.bytes ≤ length rest.old }
+// Reads until the input ends, or the memory is full. A read that a signal interrupted is taken up again.
+fn take_all<'a>(input: &mut impl Read, memory: &'a mut [u8]) -> Result<&'a [u8], Failure>
+    ensures { IfOk result (λ taken. length taken.now ≤ length memory.old) }
 {
-    match input.read(rest) {
-        Ok(n) => Taken {
-            bytes: n,
-            more: 0 < n,
-            sound: true,
-        },
-        Err(error) => {
-            let again = error.kind() == ErrorKind::Interrupted;
-            if !again {
-                fail(rt, "report: standard input", error);
-            }
-            Taken {
-                bytes: 0,
-                more: again,
-                sound: again,
-            }
+    let mut n = 0;
+    for _ in 0..u64::MAX {
+        if n == memory.len() {
+            break;
+        }
+        match input.read(&mut memory[n..]) {
+            Ok(0) => break,
+            Ok(more) => n += more,
+            Err(error) if error.kind() == ErrorKind::Interrupted => {}
+            Err(error) => return Err(Failure::Input(error)),
         }
     }
-}
-
-// Reads until the input ends, or a read fails, or the memory is full.
-fn take_all(rt: &impl Eprint, input: &mut impl Read, memory: &mut [u8]) -> Taken
-    ensures { IsPrefixLen result.bytes memory.new }
-{
-    let mut n: usize = 0;
-    let mut more = true;
-    let mut sound = true;
-    let mut turns = u64::MAX;
-    while 0 < turns && more && n < memory.len() {
-        let taken = take(rt, input, &mut memory[n..]);
-        n += taken.bytes;
-        more = taken.more;
-        sound = taken.sound;
-        turns -= 1;
-    }
-    Taken {
-        bytes: n,
-        more,
-        sound,
-    }
+    Ok(&memory[..n])
 }
 
 fn fresh() -> Report {
@@ -76,15 +40,25 @@ fn fresh() -> Report {
     }
 }
 
-fn tell(rt: &(impl Print + Eprint), edition: Edition, journal: &[u8]) {
-    let reported = reception::add(edition, fresh(), journal);
-    let report = reported.report;
-    let outcome = reported.outcome;
-    match outcome {
-        Outcome::Counted => {
-            say(rt, report);
+// The whole journal is in memory, since its trailer comes last and points back.
+fn tell(
+    rt: &(impl Print + Eprint),
+    input: &mut impl Read,
+    edition: Edition,
+    memory: &mut [u8],
+) -> Result<(), Failure> {
+    let journal = take_all(input, memory)?;
+    if 6291456 < journal.len() {
+        let _ = eprintln!(rt; "report: the journal is longer than 6291456 bytes");
+        return Ok(());
+    }
+    let mut report = fresh();
+    match report.add(edition, journal) {
+        Ok(()) => say(rt, &report),
+        Err(why) => {
+            refused(rt, why);
+            Ok(())
         }
-        Outcome::Refused(why) => refused(rt, why),
     }
 }
 
@@ -95,20 +69,11 @@ fn memory() -> [u8; 6291457]
     [0; 6291457]
 }
 
-// The whole journal is in memory, since its trailer comes last and points back.
 fn main(rt: HostRuntime) {
-    let Named::Given(edition) = asked(&rt, "report") else {
+    let Ok(edition) = asked(&rt, "report") else {
         return;
     };
     let mut input = rt.stdin();
-    let mut journal = memory();
-    let taken = take_all(&rt, &mut input, &mut journal);
-    let n = taken.bytes;
-    if 6291456 < n {
-        let _ = eprintln!(rt; "report: the journal is longer than 6291456 bytes");
-        return;
-    }
-    if taken.sound {
-        tell(&rt, edition, &journal[..n]);
-    }
+    let mut memory = memory();
+    is_done(&rt, "report", tell(&rt, &mut input, edition, &mut memory));
 }

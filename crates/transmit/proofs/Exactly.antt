@@ -5,6 +5,7 @@ use mathlib.Core.Path.{◌≡◌, refl, ap, ◌∙◌}
 use Prim.Native.Nat.{ℕ, zero, suc, ◌+◌, ◌-◌, ◌/◌, ◌^◌, ◌≤◌, ◌<◌}
 use native.Mathlib.Nat.{mod-lt}
 use native.Mathlib.Omega.{arith}
+use Rattle.std.specs.Prelude.{IsSomeAnd}
 use borrow.Author.Tests.{ltb-true, ltb-false, ne_eqb}
 use Rattle.transmit.specs.Blocks.{is_damaged, place_of, after_of, damaged_in, ExactlyDamaged}
 use Rattle.transmit.specs.Chance.{stepped_of, drawn_of}
@@ -15,7 +16,7 @@ unfolding drawn_of
 drawn_below s bound h = let n : bound ≡ 0 → ⊥ = λ e. omega arith in rw (ne_eqb bound 0 n) (mod-lt (s / 2 ^ 32) h)
 
 -- a block that is damaged has the bit at one of its fifty places exchanged
-pub damaged_place : (left : Left) → is_damaged left ≡ true → place_of left < 50
+pub damaged_place : (left : Left) → is_damaged left ≡ true → IsSomeAnd (place_of left) (λ place. place < 50)
 unfolding place_of
 damaged_place left d = rw d (drawn_below (stepped_of left.chance / 2 ^ 16) 50 (omega arith))
 

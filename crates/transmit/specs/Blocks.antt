@@ -1,22 +1,18 @@
 -- The blocks of a feed as they are sent, and how many of those that are left are damaged.
 -- Assumes nothing.
-use Rattle.std.specs.Prelude.{Bool, cond, List, map, ◌≡◌, ℕ, zero, suc, ◌+◌, ◌-◌, ◌/◌, ◌^◌, ◌≤◌, eqb, ltb, get_or, set}
+use Rattle.std.specs.Prelude.{Bool, cond, List, map, ◌≡◌, ℕ, zero, suc, ◌+◌, ◌-◌, ◌/◌, ◌^◌, ◌≤◌, eqb, ltb, get_or, set, Option, Some, None, Result, Ok, Err}
 use Rattle.std.specs.Int.Bits.{bit_xor}
 use Rattle.block.specs.Block.{block_of}
 use Rattle.record.specs.Editions.{filler}
 use Rattle.record.specs.Words.{written_of}
 use Rattle.record.specs.declared.Edition.{Edition}
 use Rattle.record.specs.declared.Record.{Record}
-use Rattle.record.specs.declared.Worded.{Worded}
-use Rattle.record.specs.declared.Worded.TheVariants as worded
 use Rattle.transmit.specs.Chance.{stepped_of, drawn_of}
 use Rattle.transmit.specs.declared.blocks.Left.{Left}
-use Rattle.transmit.specs.declared.Sent.{Sent}
-use Rattle.transmit.specs.declared.Sent.TheVariants as sent
 
-word_in : Edition → Worded → ℕ
-word_in edition (worded.Given word) = word
-word_in edition (worded.Refused why) = filler edition
+word_in : {E : Type 0} → Edition → Result ℕ E → ℕ
+word_in edition (Ok word) = word
+word_in edition (Err why) = filler edition
 
 -- the word of a record; a filler where it cannot be written
 unfoldable pub word_sent : Edition → Record → ℕ
@@ -27,10 +23,10 @@ word_sent edition r = word_in edition (written_of r)
 unfoldable pub is_damaged : Left → Bool
 is_damaged left = ltb (drawn_of (stepped_of left.chance) left.blocks) left.damaged
 
--- at which of its fifty places; 50, which is none, where it is not
-unfoldable pub place_of : Left → ℕ
+-- at which of its fifty places, if it is
+unfoldable pub place_of : Left → Option ℕ
 unfolding is_damaged
-place_of left = cond (is_damaged left) (drawn_of (stepped_of left.chance / 2 ^ 16) 50) 50
+place_of left = cond (is_damaged left) (Some (drawn_of (stepped_of left.chance / 2 ^ 16) 50)) None
 
 -- what is left after the next block
 unfoldable pub after_of : Left → Left
@@ -58,8 +54,9 @@ abbrev pub ExactlyDamaged : Type 0
 ExactlyDamaged = (left : Left) → left.damaged ≤ left.blocks → damaged_in left.blocks left ≡ left.damaged
 
 -- the bit at a place exchanged; none where there is no such place
-unfoldable pub exchanged_at : ℕ → List ℕ → List ℕ
-exchanged_at place bits = set bits place (bit_xor (get_or bits place 0) 1)
+unfoldable pub exchanged_at : Option ℕ → List ℕ → List ℕ
+exchanged_at (Some place) bits = set bits place (bit_xor (get_or bits place 0) 1)
+exchanged_at None bits = bits
 
 -- '0' and '1' are the bytes 48 and 49
 unfoldable pub character_of : ℕ → ℕ
@@ -70,7 +67,6 @@ unfoldable pub block_sent : Left → ℕ → List ℕ
 unfolding exchanged_at place_of block_of character_of
 block_sent left word = map character_of (exchanged_at (place_of left) (block_of 0 word))
 
--- what is left after k blocks, unless they could not be written; only private contracts name this
-abbrev pub Follows : ℕ → Left → Sent → Type 0
-Follows k start (sent.On left) = left ≡ after_blocks k start
-Follows k start sent.Failed = Unit {0}
+-- what is left after k blocks; only private contracts name this
+abbrev pub Follows : ℕ → Left → Left → Type 0
+Follows k start left = left ≡ after_blocks k start

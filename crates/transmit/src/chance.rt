@@ -10,6 +10,7 @@ pub fn from(seed: u32) -> u64
 }
 
 // The next state: three shifts, each added without carry.
+#[tactic(auto, unfolding(crate::specs::Chance::stepped_of, crate::specs::Chance::up, crate::specs::Chance::down))]
 pub fn stepped(s: u64) -> u64
     ensures { result ≡ stepped_of s }
 {
@@ -19,6 +20,7 @@ pub fn stepped(s: u64) -> u64
 }
 
 // A number below the bound; 0 where nothing is below it.
+#[tactic(auto, unfolding(crate::specs::Chance::drawn_of))]
 pub fn drawn(s: u64, below: u32) -> u32
     ensures { result ≡ drawn_of s below }
 {

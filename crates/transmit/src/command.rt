@@ -1,203 +1,116 @@
 // The arguments: DATE TIME OFFSET MINUTES [DAMAGED [SEED [EDITION]]]. The first that is wrong is named, with what was expected.
-use crate::Asked;
-use arguments::{Day, Number, Offset, Time, day_of, edition_of, number_of, offset_of, time_of};
+use crate::Feed;
+use arguments::{Day, Time, day_of, edition_of, number_of, offset_of, time_of};
 use calendar::Date;
 use console::{argument, argument_count};
-use record::{Edition, Named, Recorded};
+use record::Edition;
 use std::env::Env;
 
-// Where standard error takes nothing there is nowhere else to tell it.
-fn complain(rt: &impl Eprint, text: &str) -> Asked {
-    let _ = eprintln!(rt; "transmit: {text}");
-    Asked::Nothing
-}
+const COUNT: &str =
+    "expected DATE TIME OFFSET MINUTES [DAMAGED [SEED [EDITION]]], as in: transmit 1986-01-01 12:34 2 5";
+
+const DATE: &str = "DATE: expected a day as 1986-01-01, from 1900-12-31 to 2100-01-03";
+
+const TIME: &str = "TIME: expected a time as 12:34, from 00:00 to 23:59";
+
+const OFFSET: &str = "OFFSET: expected a number of half hours from -32 to 31";
+
+const MINUTES: &str = "MINUTES: expected a number from 1 to 65535";
+
+const DAMAGED: &str = "DAMAGED: expected a number of blocks, from 0 to thirty times MINUTES";
+
+const SEED: &str = "SEED: expected a number from 0 to 9999999";
+
+const EDITION: &str = "EDITION: expected 1984 or 1982";
 
 // The argument at a place, as it is read; one that is missing or has more than sixteen characters is read as empty.
-fn number_in(rt: &impl Env, i: usize) -> Number {
+fn read_at<T, F: FnOnce(&[u8]) -> T>(rt: &impl Env, i: usize, read: F) -> T
+    requires { F.IsAlwaysCallable read }
+{
     let mut text = [0u8; 16];
-    let n = argument(rt, i, &mut text);
-    number_of(&text[..n])
+    read(argument(rt, i, &mut text))
 }
 
-fn day_in(rt: &impl Env, i: usize) -> Day {
-    let mut text = [0u8; 16];
-    let n = argument(rt, i, &mut text);
-    day_of(&text[..n])
-}
-
-fn time_in(rt: &impl Env, i: usize) -> Time {
-    let mut text = [0u8; 16];
-    let n = argument(rt, i, &mut text);
-    time_of(&text[..n])
-}
-
-fn offset_in(rt: &impl Env, i: usize) -> Offset {
-    let mut text = [0u8; 16];
-    let n = argument(rt, i, &mut text);
-    offset_of(&text[..n])
-}
-
-// The number at a place that may be left out.
-fn number_or(rt: &impl Env, i: usize, count: usize, otherwise: u32) -> Number {
-    if i < count {
-        number_in(rt, i)
+// The same at a place that may be left out.
+fn read_or<T: Drop, F: FnOnce(&[u8]) -> T + Drop>(
+    rt: &impl Env,
+    i: usize,
+    read: F,
+    otherwise: T,
+) -> T
+    requires { F.IsAlwaysCallable read }
+{
+    if i < argument_count(rt) {
+        read_at(rt, i, read)
     } else {
-        Number::Of(otherwise)
+        otherwise
     }
 }
 
-// A number of minutes; 0, which it cannot be, where it is none or out of range.
-fn short_of(number: Number) -> u16 {
-    match number {
-        Number::Of(n) => {
-            if 65535 < n {
-                return 0;
-            }
-            n as u16
-        }
-        Number::None => 0,
-    }
-}
-
-// The edition at a place that may be left out.
-fn edition_or(rt: &impl Env, i: usize, count: usize, otherwise: Edition) -> Named {
-    if i < count {
-        let mut text = [0u8; 16];
-        let n = argument(rt, i, &mut text);
-        edition_of(&text[..n])
-    } else {
-        Named::Given(otherwise)
-    }
+// A number of minutes, of which there is at least one.
+fn minutes_in(rt: &impl Env) -> Option<u16> {
+    let n = read_at(rt, 4, number_of)?;
+    let minutes = u16::try_from(n).ok()?;
+    if minutes == 0 { None } else { Some(minutes) }
 }
 
 // How many blocks to damage, of thirty a minute.
-fn damaged_in(rt: &impl Env, i: usize, count: usize, minutes: u16) -> Number {
-    let number = number_or(rt, i, count, 0);
-    let Number::Of(n) = number else {
-        return number;
-    };
-    if minutes as u32 * 30 < n {
-        Number::None
+fn damaged_in(rt: &impl Env, minutes: u16) -> Option<u32> {
+    let n = read_or(rt, 5, number_of, Some(0))?;
+    if u32::from(minutes) * 30 < n {
+        None
     } else {
-        number
+        Some(n)
     }
-}
-
-fn wrong_count(rt: &impl Eprint) -> Asked {
-    complain(
-        rt,
-        "expected DATE TIME OFFSET MINUTES [DAMAGED [SEED [EDITION]]], as in: transmit 1986-01-01 12:34 2 5",
-    )
-}
-
-fn wrong_date(rt: &impl Eprint) -> Asked {
-    complain(
-        rt,
-        "DATE: expected a day as 1986-01-01, from 1900-12-31 to 2100-01-03",
-    )
-}
-
-fn wrong_time(rt: &impl Eprint) -> Asked {
-    complain(rt, "TIME: expected a time as 12:34, from 00:00 to 23:59")
-}
-
-fn wrong_offset(rt: &impl Eprint) -> Asked {
-    complain(rt, "OFFSET: expected a number of half hours from -32 to 31")
-}
-
-fn wrong_minutes(rt: &impl Eprint) -> Asked {
-    complain(rt, "MINUTES: expected a number from 1 to 65535")
-}
-
-fn wrong_damaged(rt: &impl Eprint) -> Asked {
-    complain(
-        rt,
-        "DAMAGED: expected a number of blocks, from 0 to thirty times MINUTES",
-    )
-}
-
-fn wrong_seed(rt: &impl Eprint) -> Asked {
-    complain(rt, "SEED: expected a number from 0 to 9999999")
-}
-
-fn wrong_edition(rt: &impl Eprint) -> Asked {
-    complain(rt, "EDITION: expected 1984 or 1982")
 }
 
 // How long the feed is, how much of it is damaged, and in which edition it is sent.
-fn feed_from(rt: &(impl Env + Eprint), date: Date, count: usize) -> Asked {
-    let minutes = short_of(number_in(rt, 4));
-    if minutes == 0 {
-        return wrong_minutes(rt);
-    }
-    let Number::Of(damaged) = damaged_in(rt, 5, count, minutes) else {
-        return wrong_damaged(rt);
-    };
-    let Number::Of(seed) = number_or(rt, 6, count, 1) else {
-        return wrong_seed(rt);
-    };
-    let Named::Given(edition) = edition_or(rt, 7, count, Edition::Of1984) else {
-        return wrong_edition(rt);
-    };
-    let Recorded::Given(record) = calendar::record_of_date(edition, date) else {
-        return wrong_date(rt);
-    };
-    Asked::Feed {
+fn feed_from(rt: &impl Env, date: Date) -> Result<Feed, &'static str> {
+    let minutes = minutes_in(rt).ok_or(MINUTES)?;
+    let damaged = damaged_in(rt, minutes).ok_or(DAMAGED)?;
+    let seed = read_or(rt, 6, number_of, Some(1)).ok_or(SEED)?;
+    let edition = read_or(rt, 7, edition_of, Ok(Edition::Of1984)).map_err(|_| EDITION)?;
+    let record = calendar::record_of_date(edition, date).map_err(|_| DATE)?;
+    Ok(Feed {
         edition,
         record,
         minutes,
         damaged,
         seed,
-    }
+    })
 }
 
-// A text that says no moment is a date that no record has.
-fn date_of(day: Day, time: Time, offset: Offset) -> Date {
-    let Day::Of { year, month, day } = day else {
-        return Date::zeros();
-    };
-    let Time::Of { hour, minute } = time else {
-        return Date::zeros();
-    };
-    let Offset::Of(half_hours) = offset else {
-        return Date::zeros();
-    };
-    Date::new(year, month, day, hour, minute, half_hours)
-}
-
-// The same dates have records in both editions.
-fn has_record(date: Date) -> bool {
-    match calendar::record_of_date(Edition::Of1984, date) {
-        Recorded::Given(_) => true,
-        Recorded::Refused(_) => false,
-    }
-}
-
-fn feed_in(rt: &(impl Env + Eprint), count: usize) -> Asked {
-    let day = day_in(rt, 1);
-    let midnight = Time::Of { hour: 0, minute: 0 };
-    if !has_record(date_of(day, midnight, Offset::Of(0))) {
-        return wrong_date(rt);
-    }
-    let time = time_in(rt, 2);
-    if !has_record(date_of(day, time, Offset::Of(0))) {
-        return wrong_time(rt);
-    }
-    let date = date_of(day, time, offset_in(rt, 3));
-    if has_record(date) {
-        feed_from(rt, date, count)
+// The date of a moment, if it has a record. The same dates have records in both editions.
+fn date_of(day: Day, time: Time, half_hours: i8) -> Option<Date> {
+    let date = Date::new(
+        day.year,
+        day.month,
+        day.day,
+        time.hour,
+        time.minute,
+        half_hours,
+    );
+    if calendar::record_of_date(Edition::Of1984, date).is_ok() {
+        Some(date)
     } else {
-        wrong_offset(rt)
+        None
     }
 }
 
-pub fn asked(rt: &(impl Env + Eprint)) -> Asked {
-    let count = argument_count(rt);
-    if count < 5 {
-        return wrong_count(rt);
+fn date_in(rt: &impl Env) -> Result<Date, &'static str> {
+    let midnight = Time { hour: 0, minute: 0 };
+    let day = read_at(rt, 1, day_of).ok_or(DATE)?;
+    date_of(day, midnight, 0).ok_or(DATE)?;
+    let time = read_at(rt, 2, time_of).ok_or(TIME)?;
+    date_of(day, time, 0).ok_or(TIME)?;
+    let half_hours = read_at(rt, 3, offset_of).ok_or(OFFSET)?;
+    date_of(day, time, half_hours).ok_or(OFFSET)
+}
+
+// The feed, or what is wrong with the arguments.
+pub fn asked(rt: &impl Env) -> Result<Feed, &'static str> {
+    match argument_count(rt) {
+        5..=8 => feed_from(rt, date_in(rt)?),
+        _ => Err(COUNT),
     }
-    if 8 < count {
-        return wrong_count(rt);
-    }
-    feed_in(rt, count)
 }

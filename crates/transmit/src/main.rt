@@ -5,126 +5,84 @@ mod blocks;
 mod chance;
 mod command;
 
-ghost use Rattle.std.specs.Prelude.{ℕ};
+ghost use Rattle.std.specs.Prelude.{IfOk};
 ghost use Rattle.transmit.specs.Blocks.{Follows};
-ghost use Rattle.transmit.specs.declared.blocks.Left.{Left};
 
 use blocks::{Left, after, block_sent, filler, word_of};
 use command::asked;
-use console::{is_done, put};
-use record::{Edition, Record, Recorded};
+use console::{Failure, is_done, put};
+use record::{Edition, Record};
 
 // What is asked for: the edition, the first minute's record, and how many minutes and damaged blocks.
-#[derive(Drop)]
-pub enum Asked {
-    Feed {
-        edition: Edition,
-        record: Record,
-        minutes: u16,
-        damaged: u32,
-        seed: u32,
-    },
-    Nothing,
+#[derive(Clone, Copy)]
+pub struct Feed {
+    pub edition: Edition,
+    pub record: Record,
+    pub minutes: u16,
+    pub damaged: u32,
+    pub seed: u32,
 }
 
-// What became of sending: what is left after it, or that standard output takes no more, which was told.
-#[derive(Drop)]
-enum Sent {
-    On(Left),
-    Failed,
-}
-
-// Tells why, where not all of it could be written.
-fn write(rt: &(impl Print + Eprint), bytes: &[u8]) -> bool {
-    is_done(rt, "transmit: standard output", put(rt, bytes))
-}
-
-fn send_block(rt: &(impl Print + Eprint), left: Left, word: u32) -> Sent
-    ensures { Follows 1 left result }
+fn send_block(rt: &impl Print, left: Left, word: u32) -> Result<Left, Failure>
+    ensures { IfOk result (Follows 1 left) }
 {
-    let line = block_sent(left, word);
-    if write(rt, &line) {
-        return Sent::On(after(left));
-    }
-    Sent::Failed
+    put(rt, &block_sent(left, word))?;
+    Ok(after(left))
 }
 
-fn send_fillers(rt: &(impl Print + Eprint), edition: Edition, start: Left) -> Sent
-    ensures { Follows 29 start result }
+fn send_fillers(rt: &impl Print, edition: Edition, start: Left) -> Result<Left, Failure>
+    ensures { IfOk result (Follows 29 start) }
 {
     let word = filler(edition);
     let mut left = start;
-    let mut i: u32 = 0;
-    while i < 29 {
-        let Sent::On(next) = send_block(rt, left, word) else {
-            return Sent::Failed;
-        };
-        left = next;
-        i += 1;
+    for _ in 0..29u32 {
+        left = send_block(rt, left, word)?;
     }
-    Sent::On(left)
-}
-
-// The end of the line, unless sending it failed.
-fn end_line(rt: &(impl Print + Eprint), sent: Sent) -> Sent
-    ensures { (k : ℕ) (start : Left) → Follows k start sent → Follows k start result }
-{
-    match sent {
-        Sent::On(_) => {
-            if write(rt, b"\n") {
-                return sent;
-            }
-            Sent::Failed
-        }
-        Sent::Failed => Sent::Failed,
-    }
+    Ok(left)
 }
 
 // Twenty-nine fillers, the time block, and the end of the line.
-fn send_minute(rt: &(impl Print + Eprint), edition: Edition, start: Left, record: Record) -> Sent
-    ensures { Follows 30 start result }
+fn send_minute(
+    rt: &impl Print,
+    edition: Edition,
+    start: Left,
+    record: Record,
+) -> Result<Left, Failure>
+    ensures { IfOk result (Follows 30 start) }
 {
-    let Sent::On(left) = send_fillers(rt, edition, start) else {
-        return Sent::Failed;
-    };
-    end_line(rt, send_block(rt, left, word_of(edition, record)))
+    let last = send_fillers(rt, edition, start)?;
+    let left = send_block(rt, last, word_of(edition, record))?;
+    put(rt, b"\n")?;
+    Ok(left)
 }
 
 // Minute after minute, as long as standard output takes it.
-fn send(rt: &(impl Print + Eprint), edition: Edition, first: Record, minutes: u16, start: Left) {
-    let mut record = first;
-    let mut left = start;
-    let mut k = minutes;
-    while 0 < k {
-        let Sent::On(then) = send_minute(rt, edition, left, record) else {
-            return;
-        };
-        left = then;
-        k -= 1;
+fn send(rt: &impl Print, feed: Feed) -> Result<(), Failure> {
+    let mut record = feed.record;
+    let mut left = Left {
+        blocks: u32::from(feed.minutes) * 30,
+        damaged: feed.damaged,
+        chance: chance::from(feed.seed),
+    };
+    for _ in 0..feed.minutes {
+        left = send_minute(rt, feed.edition, left, record)?;
         // The record of a date always has a next minute.
-        let Recorded::Given(next) = calendar::next_minute(edition, record) else {
-            return;
+        let Ok(next) = calendar::next_minute(feed.edition, record) else {
+            break;
         };
         record = next;
     }
+    Ok(())
 }
 
 fn main(rt: HostRuntime) {
     match asked(&rt) {
-        Asked::Feed {
-            edition,
-            record,
-            minutes,
-            damaged,
-            seed,
-        } => {
-            let left = Left {
-                blocks: minutes as u32 * 30,
-                damaged,
-                chance: chance::from(seed),
-            };
-            send(&rt, edition, record, minutes, left);
+        Ok(feed) => {
+            is_done(&rt, "transmit", send(&rt, feed));
         }
-        Asked::Nothing => {}
+        // Where standard error takes nothing there is nowhere else to tell it.
+        Err(wrong) => {
+            let _ = eprintln!(rt; "transmit: {wrong}");
+        }
     }
 }

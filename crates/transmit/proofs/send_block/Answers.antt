@@ -3,6 +3,6 @@
 use Rattle.transmit.specs.Blocks.{after_blocks}
 use Rattle.transmit.proofs.send_block.Goals as goal
 
-pub returns-then-write : goal.returns-then-write
+pub returns : goal.returns
 unfolding after_blocks
-returns-then-write g c = c.after.ensures
+returns g c = c.after.ensures
