@@ -1,4 +1,3 @@
--- In reading order: a lent report as C lays it out, the call under an edition, and the flat answers.
-pub mod Numbers
+-- In reading order: the call under an edition, and the flat answers.
 pub mod Under
 pub mod Face

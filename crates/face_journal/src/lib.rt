@@ -1,26 +1,22 @@
-// The journal's calls as C sees them: flat answers, numbered as documents 01 and 02 number things. A report that is lent to be
-// changed is nineteen numbers in a row, which its fields are.
+// The journal's calls as C sees them: flat answers, numbered as documents 01 and 02 number things.
 #![tactic(auto)]
-
-mod numbers;
 
 ghost use Rattle.std.specs.Prelude.{◌≡◌};
 ghost use Rattle.face_journal.specs.Face.{compacted_face, share_face};
-ghost use Rattle.face_journal.specs.Numbers.{report_in, numbers_of};
 ghost use Rattle.face_journal.specs.Under.{add_under};
-ghost use Rattle.journal.specs.Compaction.{compact_of, compacted_of};
+ghost use Rattle.journal.specs.Compaction.{compact_of, compacted_of, refusal_in};
 ghost use Rattle.journal.specs.Salvage.{salvaged_of};
-ghost use Rattle.reception.specs.Adding.{join_of, refusal_in};
+ghost use Rattle.reception.specs.Adding.{answered, join_of, left_by};
 ghost use Rattle.reception.specs.Share.{share_of};
 
-use journal::{Compacted, Salvaged};
-use numbers::{numbers_of, report_in};
-use reception::{Outcome, Report, Reported, Share};
-use record::Named;
+use journal::Salvaged;
+use reception::Report;
+use record::Edition;
+use refusal::Refusal;
 
 // What compaction leaves: the refusal's number, 0 for none, then the new length, 0 where refused.
 #[repr(C)]
-#[derive(Drop)]
+#[derive(Clone, Copy)]
 pub struct CompactedAnswer {
     pub refusal: u8,
     pub length: u64,
@@ -28,7 +24,7 @@ pub struct CompactedAnswer {
 
 // Good blocks of a thousand: the refusal's number, 0 for none, then what the division gives and what it leaves, zeros where refused.
 #[repr(C)]
-#[derive(Drop)]
+#[derive(Clone, Copy)]
 pub struct ShareAnswer {
     pub refusal: u8,
     pub quotient: u64,
@@ -37,12 +33,13 @@ pub struct ShareAnswer {
 
 #[unsafe(no_mangle)]
 pub extern "C" fn lw_compact(journal: &mut [u8]) -> CompactedAnswer
-    ensures { (result ≡ compacted_face (compact_of journal.old)) × (journal.new ≡ compacted_of journal.old) }
+    ensures told { result ≡ compacted_face (compact_of journal.old) }
+    ensures left { journal.new ≡ compacted_of journal.old }
 {
     match journal::compact(journal) {
-        Compacted::Length(length) => CompactedAnswer { refusal: 0, length },
-        Compacted::Refused(refusal) => CompactedAnswer {
-            refusal: refusal::number(refusal),
+        Ok(length) => CompactedAnswer { refusal: 0, length },
+        Err(refusal) => CompactedAnswer {
+            refusal: u8::from(refusal),
             length: 0,
         },
     }
@@ -58,65 +55,49 @@ pub extern "C" fn lw_salvage(journal: &[u8]) -> Salvaged
 // ---- the report
 
 // 0 where it was counted.
-fn refusal_of(outcome: Outcome) -> u8
-    ensures { result ≡ refusal_in outcome }
+fn refusal_of(answer: Result<(), Refusal>) -> u8
+    ensures { result ≡ refusal_in answer }
 {
-    match outcome {
-        Outcome::Counted => 0,
-        Outcome::Refused(why) => refusal::number(why),
-    }
+    answer.err().map_or(0, u8::from)
 }
 
-// The report after a journal, where the edition is given by its number.
-fn add_under(edition: u16, report: Report, journal: &[u8]) -> Reported
-    ensures { result ≡ add_under edition report journal.now }
+// A journal comes to the report, where the edition is given by its number.
+fn add_under(edition: u16, report: &mut Report, journal: &[u8]) -> Result<(), Refusal>
+    ensures told { result ≡ answered (add_under edition report.old journal.now) }
+    ensures left { report.new ≡ left_by report.old (add_under edition report.old journal.now) }
 {
-    match record::edition_of(edition) {
-        Named::Given(edition) => reception::add(edition, report, journal),
-        Named::Refused(why) => Reported {
-            outcome: Outcome::Refused(why),
-            report,
-        },
-    }
+    let edition = Edition::try_from(edition)?;
+    report.add(edition, journal)
 }
 
 #[unsafe(no_mangle)]
-pub extern "C" fn lw_report_add(edition: u16, report: &mut [u64; 19], journal: &[u8]) -> u8
-    ensures { (result ≡ refusal_in (add_under edition (report_in report.old) journal.now).outcome) × (report.new ≡ numbers_of (add_under edition (report_in report.old) journal.now).report) }
+pub extern "C" fn lw_report_add(edition: u16, report: &mut Report, journal: &[u8]) -> u8
+    ensures told { result ≡ refusal_in (add_under edition report.old journal.now) }
+    ensures left { report.new ≡ left_by report.old (add_under edition report.old journal.now) }
 {
-    let reported = add_under(edition, report_in(*report), journal);
-    let after = reported.report;
-    *report = numbers_of(after);
-    let outcome = reported.outcome;
-    refusal_of(outcome)
+    refusal_of(add_under(edition, report, journal))
 }
 
 #[unsafe(no_mangle)]
-pub extern "C" fn lw_report_join(report: &mut [u64; 19], other: Report) -> u8
-    ensures { (result ≡ refusal_in (join_of (report_in report.old) other).outcome) × (report.new ≡ numbers_of (join_of (report_in report.old) other).report) }
+pub extern "C" fn lw_report_join(report: &mut Report, other: Report) -> u8
+    ensures told { result ≡ refusal_in (join_of report.old other) }
+    ensures left { report.new ≡ left_by report.old (join_of report.old other) }
 {
-    let reported = reception::join(report_in(*report), other);
-    let after = reported.report;
-    *report = numbers_of(after);
-    let outcome = reported.outcome;
-    refusal_of(outcome)
+    refusal_of(report.join(&other))
 }
 
 #[unsafe(no_mangle)]
 pub extern "C" fn lw_per_thousand(report: Report) -> ShareAnswer
     ensures { result ≡ share_face (share_of report) }
 {
-    match reception::per_thousand(report) {
-        Share::PerThousand {
-            quotient,
-            remainder,
-        } => ShareAnswer {
+    match report.per_thousand() {
+        Ok(share) => ShareAnswer {
             refusal: 0,
-            quotient,
-            remainder,
+            quotient: share.quotient,
+            remainder: share.remainder,
         },
-        Share::Refused(why) => ShareAnswer {
-            refusal: refusal::number(why),
+        Err(why) => ShareAnswer {
+            refusal: u8::from(why),
             quotient: 0,
             remainder: 0,
         },
