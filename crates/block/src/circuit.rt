@@ -7,6 +7,7 @@ ghost use Rattle.block.specs.Division.{reduce, step_bit, remainder_from, remaind
 pub const GENERATOR: u64 = 0b11_1100_1111_0101;
 
 // One turn: every place moves up, the bit is let in below, and a 1 that has left the top place is fed back through the wires.
+#[tactic(auto, using(std::proofs::lemmas::Bool::Decides::nat_tests), unfolding(crate::specs::Division::step_bit))]
 pub fn turn(register: u32, bit: u8) -> u64
     ensures { result ≡ step_bit register bit }
 {

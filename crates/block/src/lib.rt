@@ -58,6 +58,7 @@ pub enum Aerial {
 
 // The code and the word of a block's number, where the remainder of what stands behind the prefix is known. Behind a prefix 1 it is
 // that of all fifty bits with the first inverted.
+#[tactic(auto, using(std::proofs::lemmas::Bool::Decides::nat_tests), unfolding(crate::specs::Packed::read_by))]
 pub fn read_by(block: u64, left: u16) -> Result<Body, Refused>
     ensures { result ≡ read_by block left }
 {
