@@ -70,10 +70,17 @@ impl Watch {
         ensures { result ≡ watch_proper edition self }
     {
         let state = self.state;
-        receiver::is_proper(edition, state)
-            && self.none_ahead()
-            && none_unless(state.mode == Lock::LOCKED, self.dropped)
-            && none_unless(state.time == Time::CANDIDATE, self.displaced)
+        if !receiver::is_proper(edition, state) {
+            return false;
+        }
+        if !self.none_ahead() {
+            return false;
+        }
+        if none_unless(state.mode == Lock::LOCKED, self.dropped) {
+            none_unless(state.time == Time::CANDIDATE, self.displaced)
+        } else {
+            false
+        }
     }
 
     // What is remembered behind the latest bits, if only with the last of them lock or the kind of the time may have changed.

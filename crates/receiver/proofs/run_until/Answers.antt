@@ -1,8 +1,16 @@
 -- `run_until` meets its contract: a run within the limit, from a proper state, is fed.
 -- Assumes nothing.
+use borrow.Author.Tests.{le-ltb}
 use mathlib.Core.Path.{sym, ◌∙◌}
+use Rattle.receiver.specs.Changes.{stretch_of}
 use Rattle.receiver.proofs.Changes.{stretch_is}
 use Rattle.receiver.proofs.run_until.Goals as goal
+
+pub returns-then-improper : goal.returns-then-improper
+unfolding stretch_of
+returns-then-improper c =
+    let proper = c.is_proper-improper in
+    rw (le-ltb 65536 _ c.if-long.false, ← proper.ensures, c.if-improper.true, c.refused-ran-then-improper.ensures)
 
 pub returns : goal.returns
 returns c =
