@@ -1,6 +1,6 @@
 -- Numbers as a user writes them, in digits. A text is a list of bytes.
 -- Assumes nothing.
-use Rattle.std.specs.Prelude.{Bool, true, cond, ◌&&◌, List, [], ◌∷◌, ℕ, ◌+◌, ◌*◌, ◌-◌, ◌<◌, leb, Option, None, Some}
+use Rattle.std.specs.Prelude.{Bool, true, cond, ◌&&◌, List, [], ◌∷◌, ℕ, ◌+◌, ◌*◌, ◌-◌, leb, Option, None, Some}
 
 -- '0' to '9' are the bytes 48 to 57
 unfoldable pub is_digit : ℕ → Bool

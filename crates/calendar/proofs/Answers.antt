@@ -19,9 +19,6 @@ use Rattle.calendar.specs.Dates.{weeks_in, usable_of, date_in, date_after, date_
 use Rattle.calendar.proofs.Bounds.{Bounds, bounds, date_in_range_lem}
 use Rattle.calendar.proofs.CodedYear.{coded_near}
 
-not_dated : (why : Refusal) (d : Date) → Err why ≡ Ok d → ⊥
-not_dated why d e = let z : ◌≡◌ {A = ℕ} 0 1 = cc in omega arith
-
 -- ---- dates that can be coded
 
 -- a date in range whose week's year can be coded
@@ -38,7 +35,7 @@ module _ (edition : Edition) where
   after_given : (first : ℕ) (d : Date) (u : Result Record Refusal) → date_after edition first u ≡ Ok d → (r : Record) × (u ≡ Ok r) × (date_in edition first r ≡ d)
   unfolding date_after
   after_given first d (Ok r) e = (r, refl, cc)
-  after_given first d (Err why) e = absurd (not_dated why d e)
+  after_given first d (Err why) e = absurd (not_given why d e)
 
   -- ---- a usable record
 
@@ -87,7 +84,7 @@ module _ (edition : Edition) where
       (first_year_of_span ≤ first) × (first ≤ last_first_year) × Usable r × (date_in edition first r ≡ d)
   unfolding date_of
   date_given r first d e =
-      let a = chosen (within first_year_of_span first last_first_year) _ _ _ (not_dated WrongYear d) e in
+      let a = chosen (within first_year_of_span first last_first_year) _ _ _ (not_given WrongYear d) e in
       let year = between 1901 first 2072 a.0 in
       let u = after_given first d (usable_of edition r) a.1 in
       let w = usable_given r u.0 u.1 in

@@ -8,7 +8,6 @@ use mathlib.Core.Bool.{Bool, true, false, cond, ◌&&◌, and-eq-true_iff}
 use borrow.Author.Tests.{ne_eqb, lt-ltb, le-ltb, leb-true, eqb-true}
 use lib.Dec.{eqb, ltb, leb}
 use lib.IntN.{ℤ, pos, negsuc}
-use Rattle.refusal.specs.declared.Refusal.{Refusal}
 use Rattle.refusal.specs.declared.Refusal.TheVariants.{NotARecord, OutOfRange}
 use Rattle.record.specs.declared.Edition.{Edition}
 use Rattle.record.specs.declared.Edition.TheVariants.{Of1984, Of1982}
@@ -80,14 +79,11 @@ word_back word h =
 
 -- ---- the calls
 
-not_word : (why : Refusal) (word : ℕ) → Err why ≡ Ok word → ⊥
-not_word why word e = let z : ◌≡◌ {A = ℕ} 0 1 = cc in omega arith
-
 -- what is written reads back as the same record, in both editions
 pub written_reads : (edition : Edition) (r : Record) (word : ℕ) → written_of r ≡ Ok word → read_of edition 0 word ≡ Ok r
 unfolding written_of
 written_reads edition r word w =
-    let c = chosen (in_range r) (Ok (word_of r)) (Err OutOfRange) (Ok word) (not_word OutOfRange word) w in
+    let c = chosen (in_range r) (Ok (word_of r)) (Err OutOfRange) (Ok word) (not_given OutOfRange word) w in
     let same : word_of r ≡ word = cc in
     let b = bounds r c.0 in
     rw (← same, read_fields edition 0 (word_of r) refl (not_filler edition r b) (flag_zero r b), fields_back r b, c.0)

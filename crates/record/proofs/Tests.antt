@@ -1,6 +1,6 @@
 -- What a test that passed or failed says, for ranges and choices.
 -- Assumes nothing.
-use Rattle.std.specs.Prelude.{Ok, Err}
+use Rattle.std.specs.Prelude.{Result, Ok, Err}
 use Prim.Native.Nat.{ℕ, ◌≤◌, ◌<◌}
 use native.Mathlib.Omega.{arith}
 use mathlib.Core.Path.{◌≡◌, refl}
@@ -9,7 +9,6 @@ use mathlib.Core.Logic.{◌⊎◌, inl, inr}
 use borrow.Author.Tests.{leb-true, leb-false, le-leb}
 use lib.Dec.{leb}
 use Rattle.refusal.specs.declared.Refusal.{Refusal}
-use Rattle.record.specs.declared.Record.{Record}
 use Rattle.record.specs.Ranges.{within}
 
 pub le_or_lt : (m n : ℕ) → (m ≤ n) ⊎ (n < m)
@@ -35,5 +34,5 @@ pub passed : {A : Type 0} (t : Bool) (x y z : A) → (x ≡ z → ⊥) → cond 
 passed true x y z n e = absurd (n e)
 passed false x y z n e = e
 
-pub not_given : (why : Refusal) (r : Record) → Err why ≡ Ok r → ⊥
-not_given why r e = let z : ◌≡◌ {A = ℕ} 0 1 = cc in omega arith
+pub not_given : {A : Type 0} (why : Refusal) (a : A) → ◌≡◌ {A = Result A Refusal} (Err why) (Ok a) → ⊥
+not_given why a e = let z : ◌≡◌ {A = ℕ} 0 1 = cc in omega arith

@@ -1,6 +1,6 @@
 -- `number_of` meets its contract. The loop's invariant: the number so far, with what is left of the text behind it, is the text's number.
 -- Assumes nothing.
-use Rattle.std.proofs.Common.{arith, rules, ◌≡◌, ℕ, suc, ◌+◌, ◌-◌, ◌*◌, ◌<◌, List, ◌∷◌, true, false, length, get_or, drop, refl, sym, ap, ◌∙◌, add-one, drop-cons}
+use Rattle.std.proofs.Common.{arith, rules, ◌≡◌, ℕ, suc, ◌+◌, ◌-◌, ◌*◌, ◌<◌, List, ◌∷◌, true, false, length, get_or, drop, sym, ap, ◌∙◌, add-one, drop-cons}
 use lib.Seq.{drop-length}
 use Rattle.arguments.specs.Numbers.{is_digit, number_behind, number_of}
 use Rattle.arguments.proofs.Digits.{same_digits, digit, some, none, ends, goes_on, no_digit, too_large}
