@@ -1,5 +1,6 @@
 -- The word that is mended is the fifteen symbols of body and checks, and what comes back holds the nine symbols above the six.
 -- Assumes nothing.
+use Rattle.std.specs.Prelude.{Option, Some, None, Ok, Err}
 use mathlib.Core.List.{List, ◌++◌}
 use mathlib.Core.Path.{◌≡◌, sym, ap, ◌∙◌, subst}
 use Prim.Native.Nat.{ℕ, ◌+◌, ◌*◌, ◌/◌, ◌%◌, ◌^◌, ◌<◌}
@@ -10,12 +11,9 @@ use lib.Seq.{take_at}
 use Rattle.refusal.specs.declared.Refusal.TheVariants.{NoCodeword, WrongCrc}
 use Rattle.big_endian.specs.Digits.{digits, number}
 use Rattle.big_endian.proofs.Digits.{length_digits, digits_low, digits_append, number_digits}
-use Rattle.symbols.specs.declared.Mended.{Mended}
-use Rattle.symbols.specs.declared.Mended.TheVariants.{Nearest, Farther}
 use Rattle.symbols.specs.Mending.{Mends}
 use Rattle.polish.specs.Frame.{time_in, crc_of_body, word_of, mended_to}
 use Rattle.polish.specs.Read.{Behind, none, wrong, right}
-use Rattle.polish.specs.declared.Read.TheVariants.{Told, Refused}
 use Rattle.polish.specs.declared.Time.{Time}
 
 -- nine symbols and six in one number
@@ -44,21 +42,21 @@ pub put_mended : (n body : ℕ) → n < 2 ^ 60 → mended_to (digits 4 15 n) bod
 unfolding mended_to
 put_mended n body h = ap (λ (m : ℕ). 0xA000000000 + m * 2 + body % 2) (upper n h)
 
-module _ (body checks crc : ℕ) (h : checks < 2 ^ 24) (answer : Mended) (m : Mends (digits 4 15 (joined body checks)) answer) where
-  mends : (a : Mended) → answer ≡ a → Mends (word_of body checks) a
+module _ (body checks crc : ℕ) (h : checks < 2 ^ 24) (answer : Option ℕ) (m : Mends (digits 4 15 (joined body checks)) answer) where
+  mends : (a : Option ℕ) → answer ≡ a → Mends (word_of body checks) a
   mends a e = subst (λ (l : List ℕ). Mends l a) (joined_digits body checks h) (subst (Mends (digits 4 15 (joined body checks))) e m)
 
-  pub farther : answer ≡ Farther → Behind body checks crc (Refused NoCodeword)
-  farther e = none (mends Farther e)
+  pub farther : answer ≡ None → Behind body checks crc (Err NoCodeword)
+  farther e = none (mends None e)
 
-  module _ (n : ℕ) (e : answer ≡ Nearest n) where
+  module _ (n : ℕ) (e : answer ≡ Some n) where
     mended : mended_to (digits 4 15 n) body ≡ put n body
-    mended = put_mended n body (mends (Nearest n) e).0
+    mended = put_mended n body (mends (Some n) e).0
 
-    pub mismatched : (crc_of_body (put n body) ≡ crc → ⊥) → Behind body checks crc (Refused WrongCrc)
-    mismatched other = wrong (digits 4 15 n) (mends (Nearest n) e).1 (λ q. other (ap crc_of_body (sym mended) ∙ q))
+    pub mismatched : (crc_of_body (put n body) ≡ crc → ⊥) → Behind body checks crc (Err WrongCrc)
+    mismatched other = wrong (digits 4 15 n) (mends (Some n) e).1 (λ q. other (ap crc_of_body (sym mended) ∙ q))
 
-    pub matched : (time : Time) → crc_of_body (put n body) ≡ crc → time ≡ time_in (put n body) → Behind body checks crc (Told time)
+    pub matched : (time : Time) → crc_of_body (put n body) ≡ crc → time ≡ time_in (put n body) → Behind body checks crc (Ok time)
     matched time same told =
-        subst (λ (t : Time). Behind body checks crc (Told t)) (ap time_in mended ∙ sym told)
-        (right (digits 4 15 n) (mends (Nearest n) e).1 (ap crc_of_body mended ∙ same))
+        subst (λ (t : Time). Behind body checks crc (Ok t)) (ap time_in mended ∙ sym told)
+        (right (digits 4 15 n) (mends (Some n) e).1 (ap crc_of_body mended ∙ same))

@@ -1,30 +1,24 @@
 -- What a fitting time says of its fields.
 -- Assumes nothing.
-use borrow.Author.Tests.{ltb-true}
-use mathlib.Core.Bool.{Bool, true, ◌&&◌, and-eq-true_iff, and-true}
-use mathlib.Core.Path.{◌≡◌, sym, ap, ◌∙◌}
+use borrow.Author.Tests.{ltb-true, lt-ltb}
+use mathlib.Core.Bool.{Bool, true, false, ◌&&◌, and-eq-true_iff, and-true}
+use mathlib.Core.Path.{◌≡◌, refl, sym, ap, ◌∙◌}
 use Prim.Native.Nat.{ℕ, ◌<◌, ◌^◌}
-use lib.Bits.{bit_or}
 use lib.Dec.{ltb}
-use Rattle.polish.proofs.Either.{or_test}
-use Rattle.polish.specs.Write.{fitting}
+use mathlib.Core.List.{List}
+use lib.ListN.{get_or}
+use Rattle.std.specs.List.{All, list_all}
+use Rattle.std.proofs.lemmas.List.Sums.{AllPass-from_list_all, list_all-from_AllPass}
+use Rattle.std.proofs.Common.{◌↔◌}
+use Rattle.polish.specs.Frame.{flags_of}
+use Rattle.polish.specs.Write.{fitting, FieldsFit}
 use Rattle.polish.specs.declared.Time.{Time}
-
-pub record Bounds (time : Time) : Type 0 where
-  pub periods : time.periods < 2 ^ 30
-  pub tz0 : time.tz0 < 2
-  pub tz1 : time.tz1 < 2
-  pub ls : time.ls < 2
-  pub lss : time.lss < 2
-  pub tzc : time.tzc < 2
-  pub sk0 : time.sk0 < 2
-  pub sk1 : time.sk1 < 2
 
 -- where a bound and something else hold, the bound does, and the something else
 split : (n b : ℕ) (t : Bool) → ltb n b && t ≡ true → (n < b) × (t ≡ true)
 split n b t e = (ltb-true n b ((and-eq-true_iff (ltb n b) t).0 e).0, ((and-eq-true_iff (ltb n b) t).0 e).1)
 
-pub bounds : (time : Time) → fitting time ≡ true → Bounds time
+pub bounds : (time : Time) → fitting time ≡ true → FieldsFit time
 unfolding fitting
 bounds time e =
     let a = split time.periods (2 ^ 30) _ e in
@@ -45,15 +39,21 @@ bounds time e =
       sk1 = ltb-true time.sk1 2 h.1;
     }
 
--- seven bits in one number
-pub seven : (a b c d e f g : ℕ) → ltb (bit_or (bit_or (bit_or (bit_or (bit_or (bit_or a b) c) d) e) f) g) 2
-    ≡ ltb a 2 && (ltb b 2 && (ltb c 2 && (ltb d 2 && (ltb e 2 && (ltb f 2 && ltb g 2)))))
-seven a b c d e f g =
-    sym (and-true _)
-    ∙ or_test (bit_or (bit_or (bit_or (bit_or (bit_or a b) c) d) e) f) g true
-    ∙ or_test (bit_or (bit_or (bit_or (bit_or a b) c) d) e) f _
-    ∙ or_test (bit_or (bit_or (bit_or a b) c) d) e _
-    ∙ or_test (bit_or (bit_or a b) c) d _
-    ∙ or_test (bit_or a b) c _
-    ∙ or_test a b _
-    ∙ ap (λ (t : Bool). ltb a 2 && (ltb b 2 && (ltb c 2 && (ltb d 2 && (ltb e 2 && (ltb f 2 && t)))))) (and-true (ltb g 2))
+-- flags that a test of all of them was made of
+tested : (q : Bool) (flags : List ℕ) → (q ≡ true) ↔ All (λ b. b < 2) flags → q ≡ list_all (λ b. ltb b 2) flags
+tested true flags h = sym (list_all-from_AllPass (λ b. ltb b 2) flags (λ k d l. lt-ltb (get_or flags k d) 2 (h.0 refl k d l)))
+tested false flags h = by (list_all (λ b. ltb b 2) flags) refl
+  where
+    by : (p : Bool) → list_all (λ b. ltb b 2) flags ≡ p → false ≡ list_all (λ b. ltb b 2) flags
+    by false e = sym e
+    by true e = h.1 (λ k d l. ltb-true (get_or flags k d) 2 (AllPass-from_list_all (λ b. ltb b 2) flags e k d l)) ∙ sym e
+
+-- a count and its flags, tested one after the other
+pub fits_is : (time : Time) → fitting time ≡ (ltb time.periods (2 ^ 30) && list_all (λ b. ltb b 2) (flags_of time))
+unfolding fitting
+fits_is time =
+    ap (λ (t : Bool). ltb time.periods (2 ^ 30) && (ltb time.tz0 2 && (ltb time.tz1 2 && (ltb time.ls 2 && (ltb time.lss 2 && (ltb time.tzc 2 && (ltb time.sk0 2 && t)))))))
+    (sym (and-true (ltb time.sk1 2)))
+
+pub all_fit : (time : Time) (q : Bool) → time.periods < 2 ^ 30 → (q ≡ true) ↔ All (λ b. b < 2) (flags_of time) → q ≡ fitting time
+all_fit time q h e = tested q (flags_of time) e ∙ sym (rw (fits_is time, lt-ltb time.periods (2 ^ 30) h))

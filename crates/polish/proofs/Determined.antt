@@ -1,5 +1,6 @@
 -- A frame has one answer, since a word has at most one codeword near; and two results that a contract allows for the same input are equal, lent bytes included.
 -- Assumes nothing.
+use Rattle.std.specs.Prelude.{Result, Ok}
 use mathlib.Core.List.{List}
 use mathlib.Core.Path.{◌≡◌, refl, sym, ap, ◌∙◌}
 use Prim.Native.Nat.{ℕ}
@@ -7,12 +8,12 @@ use Rattle.refusal.proofs.Determined.{Determined, Leaves}
 use Rattle.symbols.proofs.Unique.{unique}
 use Rattle.polish.specs.Frame.{time_in, crc_of_body, word_of, mended_to}
 use Rattle.polish.specs.Read.{Behind, none, wrong, right, Reads, size, fixed, behind}
-use Rattle.polish.specs.declared.Read.{Read}
-use Rattle.polish.specs.declared.Read.TheVariants.{Told}
+use Rattle.refusal.specs.declared.Refusal.{Refusal}
+use Rattle.polish.specs.declared.Time.{Time}
 use Rattle.polish.proofs.read_frame.Reads as read_frame
 use Rattle.polish.proofs.write_frame.Reads as write_frame
 
-pub behind_determined : (body checks crc : ℕ) {r q : Read} → Behind body checks crc r → Behind body checks crc q → r ≡ q
+pub behind_determined : (body checks crc : ℕ) {r q : Result Time Refusal} → Behind body checks crc r → Behind body checks crc q → r ≡ q
 behind_determined body checks crc (none f) (none g) = refl
 behind_determined body checks crc (none f) (wrong d n e) = absurd (f d n)
 behind_determined body checks crc (none f) (right d n e) = absurd (f d n)
@@ -24,9 +25,9 @@ behind_determined body checks crc (right c m f) (none g) = absurd (g c m)
 behind_determined body checks crc (right c m f) (wrong d n e) =
     absurd (e (ap (λ (l : List ℕ). crc_of_body (mended_to l body)) (unique (word_of body checks) d c n m) ∙ f))
 behind_determined body checks crc (right c m f) (right d n e) =
-    ap (λ (l : List ℕ). Told (time_in (mended_to l body))) (unique (word_of body checks) c d m n)
+    ap (λ (l : List ℕ). Ok (time_in (mended_to l body))) (unique (word_of body checks) c d m n)
 
-pub reads_determined : (frame : List ℕ) {r q : Read} → Reads frame r → Reads frame q → r ≡ q
+pub reads_determined : (frame : List ℕ) {r q : Result Time Refusal} → Reads frame r → Reads frame q → r ≡ q
 reads_determined frame (size s) (size t) = refl
 reads_determined frame (size s) (fixed l n) = absurd (s l)
 reads_determined frame (size s) (behind l f b) = absurd (s l)

@@ -1,5 +1,6 @@
 -- A frame that is taken, as it came or mended, is refused with 22 when its CRC byte is any other, and when its SK1 is the other.
 -- Assumes nothing.
+use Rattle.std.specs.Prelude.{Result, Ok}
 use mathlib.Core.List.{List}
 use mathlib.Core.Path.{◌≡◌, sym, ap, ◌∙◌}
 use Prim.Native.Nat.{ℕ, ◌+◌, ◌*◌, ◌<◌}
@@ -9,8 +10,7 @@ use lib.ListN.{length, get_or, set, length-set}
 use lib.Seq.{get_or-set_same, get_or-set_other}
 use Rattle.polish.specs.Frame.{Fixed, body_in, checks_in, crc_in}
 use Rattle.polish.specs.Read.{Behind, Reads, behind, refusal_in}
-use Rattle.polish.specs.declared.Read.{Read}
-use Rattle.polish.specs.declared.Read.TheVariants.{Told}
+use Rattle.refusal.specs.declared.Refusal.{Refusal}
 use Rattle.polish.specs.declared.Time.{Time}
 use Rattle.polish.proofs.FixedBits.{behind_fixed}
 use Rattle.polish.proofs.Mismatch.{other_crc, other_sk1}
@@ -47,7 +47,7 @@ module _ (frame : List ℕ) (i byte : ℕ) (h : 3 < i) where
         body_bytes changed still_twelve
         ∙ rw (kept 3 (λ e. omega arith), kept 4 (λ e. omega arith), kept 5 (λ e. omega arith), kept 6 (λ e. omega arith), kept 7 (λ e. omega arith)) (sym (body_bytes frame l))
 
-    read_on : Fixed frame → {r : Read} → Reads changed r → Behind (body_in changed) (checks_in changed) (crc_in changed) r
+    read_on : Fixed frame → {r : Result Time Refusal} → Reads changed r → Behind (body_in changed) (checks_in changed) (crc_in changed) r
     read_on f = behind_fixed changed still_twelve (still_fixed f)
 
 -- SK1 is the lowest bit of the body
@@ -63,7 +63,7 @@ sk1_body frame l h =
     ∙ rw (at 3 (λ e. omega arith), at 4 (λ e. omega arith), at 5 (λ e. omega arith), at 6 (λ e. omega arith), get_or-set_same frame 7 (bit_xor last 1) 0 (omega arith)) (omega arith) in
     d ∙ ap (λ (n : ℕ). n * 256 + bit_xor last 1) (sym (xor_zero_r high)) ∙ sym (xor_block 8 high 0 last 1 h (omega arith)) ∙ ap (λ (n : ℕ). bit_xor n 1) (sym e)
 
-pub crc_changed : (frame : List ℕ) {time : Time} (byte : ℕ) {r : Read} → Reads frame (Told time) → (byte ≡ crc_in frame → ⊥)
+pub crc_changed : (frame : List ℕ) {time : Time} (byte : ℕ) {r : Result Time Refusal} → Reads frame (Ok time) → (byte ≡ crc_in frame → ⊥)
     → Reads (set frame 11 byte) r → refusal_in r ≡ 22
 crc_changed frame byte {r} (behind l f b) d reads =
     let there = read_on frame 11 byte (omega arith) l f reads in
@@ -71,7 +71,7 @@ crc_changed frame byte {r} (behind l f b) d reads =
     other_crc (body_in frame) (checks_in frame) (crc_in frame) byte b d
     (rw (same_body frame 11 byte (omega arith) l (omega arith), same_checks frame 11 byte (omega arith) l (λ j p q e. omega arith), k) at there)
 
-pub sk1_changed : (frame : List ℕ) {time : Time} {r : Read} → get_or frame 7 0 < 256 → Reads frame (Told time)
+pub sk1_changed : (frame : List ℕ) {time : Time} {r : Result Time Refusal} → get_or frame 7 0 < 256 → Reads frame (Ok time)
     → Reads (set frame 7 (bit_xor (get_or frame 7 0) 1)) r → refusal_in r ≡ 22
 sk1_changed frame {r} h (behind l f b) reads =
     let byte = bit_xor (get_or frame 7 0) 1 in

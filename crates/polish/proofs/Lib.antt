@@ -1,7 +1,8 @@
-pub mod Either
 pub mod Bounds
 pub mod Register
 pub mod Parts
+pub mod Start
+pub mod Flags
 pub mod Behind
 pub mod RoundTrip
 pub mod FixedBits

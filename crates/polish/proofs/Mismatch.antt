@@ -1,5 +1,6 @@
 -- Any other CRC byte, and any other SK1, gets 22: the register tells every two last bytes that differ in their lowest bit apart.
 -- Assumes nothing.
+use Rattle.std.specs.Prelude.{Result, Ok}
 use mathlib.Core.Bool.{not}
 use mathlib.Core.List.{List, [], ◌∷◌, ◌++◌}
 use mathlib.Core.Path.{◌≡◌, refl, sym, ap, ap₂, ◌∙◌, subst}
@@ -19,8 +20,7 @@ use Rattle.symbols.proofs.Unique.{unique}
 use Rattle.polish.specs.Crc.{crc_shifts, crc_from}
 use Rattle.polish.specs.Frame.{crc_of_body, word_of, mended_to}
 use Rattle.polish.specs.Read.{Behind, none, wrong, right, refusal_in}
-use Rattle.polish.specs.declared.Read.{Read}
-use Rattle.polish.specs.declared.Read.TheVariants.{Told}
+use Rattle.refusal.specs.declared.Refusal.{Refusal}
 use Rattle.polish.specs.declared.Time.{Time}
 use Rattle.polish.proofs.Register.{moved_right}
 
@@ -81,7 +81,7 @@ lowest_bit body e =
 
 -- ---- what is told once is told with one CRC byte and one SK1 only
 
-pub other_crc : (body checks crc other : ℕ) {time : Time} {r : Read} → Behind body checks crc (Told time) → (other ≡ crc → ⊥)
+pub other_crc : (body checks crc other : ℕ) {time : Time} {r : Result Time Refusal} → Behind body checks crc (Ok time) → (other ≡ crc → ⊥)
     → Behind body checks other r → refusal_in r ≡ 22
 other_crc body checks crc other (right c m e) d (none g) = absurd (g c m)
 other_crc body checks crc other (right c m e) d (wrong c' m' f) = refl
@@ -104,7 +104,7 @@ flipped codeword body =
     ∙ ap (λ (x : ℕ). x * 2 + bit_xor b 1) (sym (xor_zero_r high))
     ∙ sym (xor_block 1 high 0 b 1 (omega arith) (omega arith)) ∙ ap (λ (x : ℕ). bit_xor x 1) d
 
-pub other_sk1 : (body checks crc : ℕ) {time : Time} {r : Read} → Behind body checks crc (Told time)
+pub other_sk1 : (body checks crc : ℕ) {time : Time} {r : Result Time Refusal} → Behind body checks crc (Ok time)
     → Behind (bit_xor body 1) checks crc r → refusal_in r ≡ 22
 other_sk1 body checks crc (right c m e) (none g) = absurd (g c (subst (λ (w : List ℕ). Near w c) (sym (same_word body checks)) m))
 other_sk1 body checks crc (right c m e) (wrong c' m' f) = refl

@@ -6,6 +6,7 @@ use Prim.Native.Nat.{ℕ, zero, suc, ◌+◌, ◌*◌, ◌/◌, ◌%◌, ◌^◌
 use native.Mathlib.Omega.{arith}
 use lib.ListN.{length, get_or, take, drop}
 use lib.Seq.{drop-cons}
+use Rattle.std.specs.Int.{w64, to_be_bytes}
 use Rattle.big_endian.specs.Digits.{digits, number}
 use Rattle.field16.proofs.Entries.{elements}
 use Rattle.big_endian.proofs.Digits.{number_digits}
@@ -22,8 +23,12 @@ pub five_bytes : (n : ℕ) → digits 8 5 n ≡ n / 0x100000000 % 256 ∷ n / 0x
 unfolding digits
 five_bytes n = ap (λ (l : List ℕ). n / 0x100000000 % 256 ∷ n / 0x1000000 % 256 ∷ l) (three_bytes n)
 
+-- the last five of the eight bytes of a number
+pub last_five : (n : ℕ) → take 5 (drop 3 (to_be_bytes w64 n)) ≡ digits 8 5 n
+last_five n = sym (five_bytes n)
+
 -- k entries from the place i on, written out
-part : (k i : ℕ) (s : List ℕ) → k + i ≤ length s → take k (drop i s) ≡ elements i k s
+pub part : (k i : ℕ) (s : List ℕ) → k + i ≤ length s → take k (drop i s) ≡ elements i k s
 part zero i s h = refl
 part (suc k) i s h =
     ap (take (suc k)) (drop-cons s i 0 (omega arith)) ∙ ap (λ (l : List ℕ). get_or s i 0 ∷ l) (part k (suc i) s (omega arith))

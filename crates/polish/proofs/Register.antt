@@ -1,14 +1,17 @@
 -- A byte moves through the register in one step: the checker computes all 256 sums of a register and a byte.
 -- Assumes nothing.
 use mathlib.Core.Bool.{◌&&◌}
-use mathlib.Core.List.{List, [], ◌∷◌}
-use mathlib.Core.Path.{◌≡◌, refl, ap}
-use Prim.Native.Nat.{ℕ, ◌*◌, ◌/◌, ◌%◌, ◌<◌}
+use mathlib.Core.List.{List}
+use mathlib.Core.Path.{◌≡◌, sym, ap, ◌∙◌}
+use Prim.Native.Nat.{ℕ, ◌*◌, ◌/◌, ◌%◌, ◌<◌, ◌≤◌, ◌+◌}
 use native.Mathlib.Omega.{arith}
 use lib.Bits.{bit_xor, xor_lt}
 use lib.Dec.{T, eqb, ltb, eqb→eq, ltb→lt}
+use lib.ListN.{length, get_or, drop}
+use Rattle.std.proofs.lemmas.List.{drop_all}
 use mir.Facts.{and_yes}
 use Rattle.block.proofs.Below.{at_below}
+use Rattle.block.proofs.Strings.{next}
 use Rattle.polish.specs.Crc.{crc_shifts, crc_from}
 
 pub sum_lt : (register byte : ℕ) → (register < 256) × (byte < 256) → bit_xor register byte < 256
@@ -37,10 +40,10 @@ moved_right n h =
     (ltb→lt (moved n) 256 passed.0, eqb→eq (moved n) (crc_shifts 8 n) passed.1)
 
 -- one byte more through the register
-pub through : (r b n : ℕ) (bs : List ℕ) → n ≡ crc_shifts 8 (bit_xor r b) → crc_from n bs ≡ crc_from r (b ∷ bs)
+pub through : (r n i : ℕ) (bytes : List ℕ) → i < length bytes → n ≡ crc_shifts 8 (bit_xor r (get_or bytes i 0)) → crc_from n (drop (i + 1) bytes) ≡ crc_from r (drop i bytes)
 unfolding crc_from
-through r b n bs e = ap (λ (x : ℕ). crc_from x bs) e
+through r n i bytes h e = ap (λ (x : ℕ). crc_from x (drop (i + 1) bytes)) e ∙ sym (ap (crc_from r) (next bytes i h))
 
-pub ends : (r : ℕ) → r ≡ crc_from r []
+pub ends : (r i : ℕ) (bytes : List ℕ) → length bytes ≤ i → crc_from r (drop i bytes) ≡ r
 unfolding crc_from
-ends r = refl
+ends r i bytes h = ap (crc_from r) (drop_all i bytes h)

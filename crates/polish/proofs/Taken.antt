@@ -1,6 +1,7 @@
 -- Only what is within three symbols of a written frame is taken: the codeword that is near is the frame of the time that is told, since a codeword
 -- is known by its first nine symbols.
 -- Assumes nothing.
+use Rattle.std.specs.Prelude.{Ok}
 use mathlib.Core.List.{List, [], ◌∷◌}
 use mathlib.Core.Path.{◌≡◌, sym, ap, ◌∙◌, subst}
 use Prim.Native.Nat.{ℕ, zero, suc, ◌+◌, ◌*◌, ◌/◌, ◌%◌, ◌^◌, ◌<◌}
@@ -16,7 +17,6 @@ use Rattle.symbols.proofs.Linear.{same_nine}
 use Rattle.polish.specs.Frame.{body_of, time_in, symbols_in, framed, body_in, checks_in, word_of, mended_to}
 use Rattle.polish.specs.Read.{Reads, behind, right}
 use Rattle.polish.specs.Taken.{fifteen_in, WithinThree}
-use Rattle.polish.specs.declared.Read.TheVariants.{Told}
 use Rattle.polish.specs.declared.Time.{Time}
 use Rattle.polish.proofs.RoundTrip.{told_fits, body_back, framed_body, framed_crc, framed_word}
 
@@ -69,7 +69,7 @@ module _ (codeword : List ℕ) (code : Codeword codeword) (body : ℕ) where
       (take_at (symbols_in mended) (digits 4 6 checks) 9 (length_digits 4 9 (mended / 2)) ∙ mended_symbols)
 
 -- a frame that reads as a time is within three symbols of the one that is written for it
-pub told_near : (frame : List ℕ) {time : Time} → Reads frame (Told time) → WithinThree time frame
+pub told_near : (frame : List ℕ) {time : Time} → Reads frame (Ok time) → WithinThree time frame
 told_near frame (behind l f (right codeword near e)) =
     let body = mended_to codeword (body_in frame) in
     let small = mended_lt codeword near.code (body_in frame) in

@@ -17,6 +17,10 @@ plain_of time =
     5 * 2 ^ 37 + time.periods * 2 ^ 7
     + (time.tz0 * 64 + time.tz1 * 32 + time.ls * 16 + time.lss * 8 + time.tzc * 4 + time.sk0 * 2 + time.sk1)
 
+-- the seven flags, in that order
+abbrev pub flags_of : Time → List ℕ
+flags_of time = time.tz0 ∷ time.tz1 ∷ time.ls ∷ time.lss ∷ time.tzc ∷ time.sk0 ∷ time.sk1 ∷ []
+
 -- scrambled, as they are sent
 unfoldable pub body_of : Time → ℕ
 body_of time = bit_xor (plain_of time) key

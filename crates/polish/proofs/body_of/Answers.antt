@@ -1,50 +1,40 @@
--- `body_of` meets its contract: the fields fit, so no product or sum leaves its place.
+-- `body_of` meets its contract: the fields fit, so no flag leaves its place.
 -- Assumes nothing.
-use mathlib.Core.Path.{refl}
-use native.Mathlib.Omega.{arith}
-use lib.Bits.{xor_lt}
-use Rattle.polish.specs.Frame.{key, plain_of, body_of}
-use Rattle.polish.proofs.Bounds.{bounds}
+use Rattle.std.proofs.Common.{ℕ, ◌+◌, ◌*◌, ◌^◌, ap, arith}
+use lib.Bits.{bit_xor, xor_lt}
+use Rattle.big_endian.specs.Digits.{number}
+use Rattle.polish.specs.Frame.{key, body_of, flags_of}
+use Rattle.polish.proofs.Flags.{flag_more, flag_small, plain_whole}
 use Rattle.polish.proofs.body_of.Goals as goal
 
-pub overflow_mul-flags : goal.overflow_mul-flags
-overflow_mul-flags c = let b = bounds _ c.requires in omega arith
+pub loop-flag-init : goal.loop-flag-init
+unfolding number
+loop-flag-init c = record { flags = c.flags-flag-items.ensures; small = omega arith; is = omega arith }
 
-pub overflow_mul-flags-2 : goal.overflow_mul-flags-2
-overflow_mul-flags-2 c = let b = bounds _ c.requires in omega arith
+pub overflow_mul-plain : goal.overflow_mul-plain
+overflow_mul-plain c =
+    let l = c.loop-flag in
+    omega (arith, (flag_small c.args.time l.plain l.flag-index c.requires l.invariant.flags c.loop-flag-test.true l.invariant.small).0)
 
-pub overflow_add-flags : goal.overflow_add-flags
-overflow_add-flags c = let b = bounds _ c.requires in omega arith
+pub overflow_add-plain-in-loop-flag : goal.overflow_add-plain-in-loop-flag
+overflow_add-plain-in-loop-flag c =
+    let l = c.loop-flag in
+    omega (arith, (flag_small c.args.time l.plain l.flag-index c.requires l.invariant.flags c.loop-flag-test.true l.invariant.small).0)
 
-pub overflow_mul-flags-3 : goal.overflow_mul-flags-3
-overflow_mul-flags-3 c = let b = bounds _ c.requires in omega arith
-
-pub overflow_add-flags-2 : goal.overflow_add-flags-2
-overflow_add-flags-2 c = let b = bounds _ c.requires in omega arith
-
-pub overflow_mul-flags-4 : goal.overflow_mul-flags-4
-overflow_mul-flags-4 c = let b = bounds _ c.requires in omega arith
-
-pub overflow_add-flags-3 : goal.overflow_add-flags-3
-overflow_add-flags-3 c = let b = bounds _ c.requires in omega arith
-
-pub overflow_mul-flags-5 : goal.overflow_mul-flags-5
-overflow_mul-flags-5 c = let b = bounds _ c.requires in omega arith
-
-pub overflow_add-flags-4 : goal.overflow_add-flags-4
-overflow_add-flags-4 c = let b = bounds _ c.requires in omega arith
-
-pub overflow_mul-flags-6 : goal.overflow_mul-flags-6
-overflow_mul-flags-6 c = let b = bounds _ c.requires in omega arith
-
-pub overflow_add-flags-5 : goal.overflow_add-flags-5
-overflow_add-flags-5 c = let b = bounds _ c.requires in omega arith
-
-pub overflow_add-flags-6 : goal.overflow_add-flags-6
-overflow_add-flags-6 c = let b = bounds _ c.requires in omega arith
+pub loop-flag-preserved : goal.loop-flag-preserved
+loop-flag-preserved c =
+    let time = c.args.time in
+    let l = c.loop-flag in
+    record {
+      flags = l.invariant.flags;
+      small = rw c.from.ensures (flag_small time l.plain l.flag-index c.requires l.invariant.flags c.loop-flag-test.true l.invariant.small).1;
+      is = rw (c.from.ensures, l.invariant.flags) (flag_more (5 * 2 ^ 30 + time.periods) l.plain l.flag-index (flags_of time) c.loop-flag-test.true l.invariant.is);
+    }
 
 pub returns : goal.returns
 unfolding body_of
 returns c =
-    let b = bounds c.args.time c.requires in
-    (xor_lt 40 (plain_of c.args.time) key (omega arith) (omega arith), refl)
+    let time = c.args.time in
+    let l = c.loop-flag in
+    let whole = plain_whole time l.plain l.flag-index (omega arith) (omega arith) l.invariant.is in
+    (xor_lt 40 l.plain key (omega arith) (omega arith), ap (λ (n : ℕ). bit_xor n key) whole)

@@ -5,5 +5,4 @@ use Rattle.polish.proofs.bytes_of.Goals as goal
 
 pub returns : goal.returns
 returns c =
-    let checks = c.checks-checks in
-    frame_bytes c.args.body checks.result c.crc.result checks.ensures.small checks.ensures.are c.crc.ensures
+    rw (c.to_be_bytes.ensures, c.to_be_bytes-2.ensures) (frame_bytes c.args.body c.checks.result c.crc.result c.checks.ensures.small c.checks.ensures.are c.crc.ensures)
