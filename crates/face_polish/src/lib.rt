@@ -5,7 +5,7 @@ ghost use Rattle.std.specs.Prelude.{◌≡◌, length};
 ghost use Rattle.face_polish.specs.Face.{PolishReads};
 ghost use Rattle.polish.specs.Write.{refusal_of, write_of, written_of};
 
-use polish::{Read, Time, Written};
+use polish::Time;
 
 // What reading a Polish frame answers, zeros where refused.
 #[repr(C)]
@@ -20,19 +20,10 @@ pub extern "C" fn lw_read_polish(frame: &[u8]) -> PolishAnswer
     ensures { PolishReads frame.now result }
 {
     match polish::read_frame(frame) {
-        Read::Told(time) => PolishAnswer { refusal: 0, time },
-        Read::Refused(refusal) => PolishAnswer {
-            refusal: refusal::number(refusal),
-            time: Time {
-                periods: 0,
-                tz0: 0,
-                tz1: 0,
-                ls: 0,
-                lss: 0,
-                tzc: 0,
-                sk0: 0,
-                sk1: 0,
-            },
+        Ok(time) => PolishAnswer { refusal: 0, time },
+        Err(refusal) => PolishAnswer {
+            refusal: u8::from(refusal),
+            time: Time::default(),
         },
     }
 }
@@ -43,7 +34,7 @@ pub extern "C" fn lw_write_polish(time: Time, frame: &mut [u8]) -> u8
     ensures { (result ≡ refusal_of (write_of (length frame.old) time)) × (frame.new ≡ written_of frame.old time) }
 {
     match polish::write_frame(time, frame) {
-        Written::Whole => 0,
-        Written::Refused(refusal) => refusal::number(refusal),
+        Ok(()) => 0,
+        Err(refusal) => u8::from(refusal),
     }
 }
