@@ -3,6 +3,8 @@
 use mathlib.Core.Path.{◌≡◌, sym, ap₂, ◌∙◌}
 use Prim.Native.Nat.{ℕ}
 use Rattle.refusal.proofs.Determined.{Determined, Leaves}
+use Rattle.block.proofs.RefusalFromRefused.from.Reads as reason
+use Rattle.block.proofs.RefusedFromRefusal.from.Reads as alone
 use Rattle.block.proofs.choose.Reads as choose
 use Rattle.block.proofs.choose_between.Reads as choose_between
 use Rattle.block.proofs.choose_packed.Reads as choose_packed
@@ -15,6 +17,12 @@ use Rattle.block.proofs.read_packed.Reads as read_packed
 use Rattle.block.proofs.unpack.Reads as unpack
 use Rattle.block.proofs.write_block.Reads as write_block
 use Rattle.block.proofs.write_packed.Reads as write_packed
+
+pub alone_determined : Determined alone.Post
+alone_determined κs a x y s t p q = p ∙ sym q
+
+pub reason_determined : Determined reason.Post
+reason_determined κs a x y s t p q = p ∙ sym q
 
 pub turn_determined : Determined turn.Post
 turn_determined κs a x y s t p q = p ∙ sym q
