@@ -63,6 +63,7 @@ pub struct Blocks {
 #[derive(Drop)]
 pub struct Judged {
     pub blocks: Blocks,
+    // 0 or 1. A number, as `good` and `bad` of the blocks are: a run's counts are sums of such.
     pub passed: u8,
     pub lock: Lock,
 }
