@@ -10,7 +10,7 @@ ghost use Rattle.reception.specs.Adding.{answered, join_of, left_by};
 ghost use Rattle.reception.specs.Share.{share_of};
 
 use journal::Salvaged;
-use reception::Report;
+use reception::{Report, Share};
 use record::Edition;
 use refusal::Refusal;
 
@@ -31,18 +31,45 @@ pub struct ShareAnswer {
     pub remainder: u64,
 }
 
+impl From<Result<u64, Refusal>> for CompactedAnswer {
+    ghost from_gives = { λ answer flat. flat ≡ compacted_face answer };
+
+    fn from(answer: Result<u64, Refusal>) -> CompactedAnswer {
+        match answer {
+            Ok(length) => CompactedAnswer { refusal: 0, length },
+            Err(refusal) => CompactedAnswer {
+                refusal: u8::from(refusal),
+                length: 0,
+            },
+        }
+    }
+}
+
+impl From<Result<Share, Refusal>> for ShareAnswer {
+    ghost from_gives = { λ answer flat. flat ≡ share_face answer };
+
+    fn from(answer: Result<Share, Refusal>) -> ShareAnswer {
+        match answer {
+            Ok(share) => ShareAnswer {
+                refusal: 0,
+                quotient: share.quotient,
+                remainder: share.remainder,
+            },
+            Err(why) => ShareAnswer {
+                refusal: u8::from(why),
+                quotient: 0,
+                remainder: 0,
+            },
+        }
+    }
+}
+
 #[unsafe(no_mangle)]
 pub extern "C" fn lw_compact(journal: &mut [u8]) -> CompactedAnswer
     ensures told { result ≡ compacted_face (compact_of journal.old) }
     ensures left { journal.new ≡ compacted_of journal.old }
 {
-    match journal::compact(journal) {
-        Ok(length) => CompactedAnswer { refusal: 0, length },
-        Err(refusal) => CompactedAnswer {
-            refusal: u8::from(refusal),
-            length: 0,
-        },
-    }
+    CompactedAnswer::from(journal::compact(journal))
 }
 
 #[unsafe(no_mangle)]
@@ -90,16 +117,5 @@ pub extern "C" fn lw_report_join(report: &mut Report, other: Report) -> u8
 pub extern "C" fn lw_per_thousand(report: Report) -> ShareAnswer
     ensures { result ≡ share_face (share_of report) }
 {
-    match report.per_thousand() {
-        Ok(share) => ShareAnswer {
-            refusal: 0,
-            quotient: share.quotient,
-            remainder: share.remainder,
-        },
-        Err(why) => ShareAnswer {
-            refusal: u8::from(why),
-            quotient: 0,
-            remainder: 0,
-        },
-    }
+    ShareAnswer::from(report.per_thousand())
 }
