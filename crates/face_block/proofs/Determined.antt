@@ -3,6 +3,8 @@
 use mathlib.Core.Path.{sym, ap₂, ◌∙◌}
 use Prim.Native.Nat.{ℕ}
 use Rattle.refusal.proofs.Determined.{Determined, Leaves}
+use Rattle.face_block.proofs.BlockAnswerFromResultBodyRefused.from.Reads as told
+use Rattle.face_block.proofs.PackedAnswerFromResultU64Refusal.from.Reads as told_packed
 use Rattle.face_block.proofs.lw_choose.Reads as choose
 use Rattle.face_block.proofs.lw_choose_packed.Reads as choose_packed
 use Rattle.face_block.proofs.lw_pack.Reads as pack
@@ -51,3 +53,9 @@ unpack_leaves κs a x y s t p q = p.1 ∙ sym q.1
 
 pub version_determined : Determined version.Post
 version_determined κs a x y s t p q = p ∙ sym q
+
+pub told_determined : Determined told.Post
+told_determined κs a x y s t p q = p ∙ sym q
+
+pub told_packed_determined : Determined told_packed.Post
+told_packed_determined κs a x y s t p q = p ∙ sym q

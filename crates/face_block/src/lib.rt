@@ -15,7 +15,7 @@ use refusal::Refusal;
 // What reading a block answers: the refusal's number, 0 for none, then code and word, zeros where refused, and the remainder, zero
 // unless refused with 4.
 #[repr(C)]
-#[derive(Drop)]
+#[derive(Clone, Copy)]
 pub struct BlockAnswer {
     pub refusal: u8,
     pub code: u8,
@@ -25,7 +25,7 @@ pub struct BlockAnswer {
 
 // A block as one number: the refusal's number, 0 for none, then the block, zero where refused.
 #[repr(C)]
-#[derive(Drop)]
+#[derive(Clone, Copy)]
 pub struct PackedAnswer {
     pub refusal: u8,
     pub block: u64,
@@ -33,38 +33,43 @@ pub struct PackedAnswer {
 
 // ---- each kind of answer as C is told it
 
-fn answer(read: Result<Body, Refused>) -> BlockAnswer
-    ensures { result ≡ block_face read }
-{
-    match read {
-        Ok(body) => BlockAnswer {
-            refusal: 0,
-            code: body.code,
-            word: body.word,
-            remainder: 0,
-        },
-        Err(refused) => BlockAnswer {
-            refusal: u8::from(refused.refusal),
-            code: 0,
-            word: 0,
-            remainder: refused.remainder,
-        },
+impl From<Result<Body, Refused>> for BlockAnswer {
+    ghost from_gives = { λ read answer. answer ≡ block_face read };
+
+    fn from(read: Result<Body, Refused>) -> BlockAnswer {
+        match read {
+            Ok(body) => BlockAnswer {
+                refusal: 0,
+                code: body.code,
+                word: body.word,
+                remainder: 0,
+            },
+            Err(refused) => BlockAnswer {
+                refusal: u8::from(refused.refusal),
+                code: 0,
+                word: 0,
+                remainder: refused.remainder,
+            },
+        }
     }
 }
 
-fn packed_answer(packed: Result<u64, Refusal>) -> PackedAnswer
-    ensures { result ≡ packed_face packed }
-{
-    match packed {
-        Ok(block) => PackedAnswer { refusal: 0, block },
-        Err(refusal) => PackedAnswer {
-            refusal: u8::from(refusal),
-            block: 0,
-        },
+impl From<Result<u64, Refusal>> for PackedAnswer {
+    ghost from_gives = { λ packed answer. answer ≡ packed_face packed };
+
+    fn from(packed: Result<u64, Refusal>) -> PackedAnswer {
+        match packed {
+            Ok(block) => PackedAnswer { refusal: 0, block },
+            Err(refusal) => PackedAnswer {
+                refusal: u8::from(refusal),
+                block: 0,
+            },
+        }
     }
 }
 
 // The refusal's number, 0 where all is written.
+// One `match` each in three faces: a shared one would be public in refusal, under one more definition.
 fn outcome(written: Result<(), Refusal>) -> u8
     ensures { result ≡ refusal_of written }
 {
@@ -103,7 +108,7 @@ fn tell(choice: Result<Aerial, Refused>, number: &mut u8, remainder: &mut u16) -
 pub extern "C" fn lw_read_block(bits: &[u8]) -> BlockAnswer
     ensures { result ≡ block_face (read_of bits.now) }
 {
-    answer(block::read_block(bits))
+    BlockAnswer::from(block::read_block(bits))
 }
 
 #[unsafe(no_mangle)]
@@ -128,14 +133,14 @@ pub extern "C" fn lw_choose(first: &[u8], second: &[u8], number: &mut u8, remain
 pub extern "C" fn lw_read_packed(block: u64) -> BlockAnswer
     ensures { result ≡ block_face (read_packed block) }
 {
-    answer(block::read_packed(block))
+    BlockAnswer::from(block::read_packed(block))
 }
 
 #[unsafe(no_mangle)]
 pub extern "C" fn lw_write_packed(code: u8, word: u32) -> PackedAnswer
     ensures { result ≡ packed_face (write_packed code word) }
 {
-    packed_answer(block::write_packed(code, word))
+    PackedAnswer::from(block::write_packed(code, word))
 }
 
 #[unsafe(no_mangle)]
@@ -156,7 +161,7 @@ pub extern "C" fn lw_choose_packed(
 pub extern "C" fn lw_pack(bits: &[u8]) -> PackedAnswer
     ensures { result ≡ packed_face (pack_of bits.now) }
 {
-    packed_answer(block::pack(bits))
+    PackedAnswer::from(block::pack(bits))
 }
 
 #[unsafe(no_mangle)]
