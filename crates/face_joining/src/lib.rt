@@ -9,24 +9,26 @@ use refusal::Refusal;
 
 // What a string leaves: the refusal's number, 0 for none, then the remainder, zero where refused.
 #[repr(C)]
-#[derive(Drop)]
+#[derive(Clone, Copy)]
 pub struct RemainderAnswer {
     pub refusal: u8,
     pub remainder: u16,
 }
 
-fn answer(divided: Result<u16, Refusal>) -> RemainderAnswer
-    ensures { result ≡ remainder_face divided }
-{
-    match divided {
-        Ok(remainder) => RemainderAnswer {
-            refusal: 0,
-            remainder,
-        },
-        Err(refusal) => RemainderAnswer {
-            refusal: u8::from(refusal),
-            remainder: 0,
-        },
+impl From<Result<u16, Refusal>> for RemainderAnswer {
+    ghost from_gives = { λ divided answer. answer ≡ remainder_face divided };
+
+    fn from(divided: Result<u16, Refusal>) -> RemainderAnswer {
+        match divided {
+            Ok(remainder) => RemainderAnswer {
+                refusal: 0,
+                remainder,
+            },
+            Err(refusal) => RemainderAnswer {
+                refusal: u8::from(refusal),
+                remainder: 0,
+            },
+        }
     }
 }
 
@@ -34,7 +36,7 @@ fn answer(divided: Result<u16, Refusal>) -> RemainderAnswer
 pub extern "C" fn lw_remainder_of(bits: &[u8]) -> RemainderAnswer
     ensures { result ≡ remainder_face (remainder_of bits.now) }
 {
-    answer(joining::remainder_of(bits))
+    RemainderAnswer::from(joining::remainder_of(bits))
 }
 
 // The length is the second string's.
@@ -42,5 +44,5 @@ pub extern "C" fn lw_remainder_of(bits: &[u8]) -> RemainderAnswer
 pub extern "C" fn lw_join(first: u16, second: u16, length: u32) -> RemainderAnswer
     ensures { result ≡ remainder_face (join_of first second length) }
 {
-    answer(joining::join(first, second, length))
+    RemainderAnswer::from(joining::join(first, second, length))
 }
