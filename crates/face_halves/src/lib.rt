@@ -10,7 +10,7 @@ use refusal::Refusal;
 
 // What was decided: the refusal's number, 0 for none, then the pairing and how many bits were written, zeros where refused.
 #[repr(C)]
-#[derive(Drop)]
+#[derive(Clone, Copy)]
 pub struct DecidedAnswer {
     pub refusal: u8,
     pub pairing: u8,
