@@ -18,7 +18,7 @@ use refusal::Refusal;
 
 // A word, 0 where refused.
 #[repr(C)]
-#[derive(Drop)]
+#[derive(Clone, Copy)]
 pub struct WordAnswer {
     pub refusal: u8,
     pub word: u32,
@@ -26,7 +26,7 @@ pub struct WordAnswer {
 
 // A record, zeros where refused.
 #[repr(C)]
-#[derive(Drop)]
+#[derive(Clone, Copy)]
 pub struct RecordAnswer {
     pub refusal: u8,
     pub given: Record,
@@ -34,7 +34,7 @@ pub struct RecordAnswer {
 
 // A date, zeros where refused.
 #[repr(C)]
-#[derive(Drop)]
+#[derive(Clone, Copy)]
 pub struct DateAnswer {
     pub refusal: u8,
     pub given: Date,
