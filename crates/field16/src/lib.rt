@@ -1,5 +1,6 @@
 // The field of sixteen elements, which the symbols of the Polish frame are. Of a larger number the lowest four bits count.
-// No type for an element: product and quotient answer for every number, and only four private functions, here and in wrong_symbols, ask for one below 16.
+// No type for an element: product and quotient answer for every number, and only three private functions, `inverse` here and `power_of` and
+// `symbol_at` in wrong_symbols, ask for one below 16.
 #![tactic(auto)]
 
 ghost use Rattle.std.specs.Prelude.{◌≡◌, ◌<◌};
@@ -17,6 +18,7 @@ pub fn times(a: u8, b: u8) -> u8
 }
 
 // One over an element, 0 for 0: sixteen answers of four bits in one number, the lowest first.
+// Tried as an array: frames with three wrong symbols are read a tenth slower.
 fn inverse(y: u8) -> u8
     requires { y < 16 }
     ensures { result ≡ field.inverse_of y }

@@ -8,12 +8,14 @@ use crate::search::Places;
 use field16::{over, times};
 use power_sums::{five, four, third};
 
-// Which power of a an element is: sixteen answers of four bits in one number, the lowest first.
+// The power of a that each element is; 0 is none, and is not asked for.
+const POWERS: [u8; 16] = [0, 0, 1, 4, 2, 8, 5, 10, 3, 14, 9, 7, 6, 13, 11, 12];
+
 fn power_of(x: u8) -> u8
     requires { (0 < x) × (x < 16) }
     ensures { (result < 15) × (a_to result ≡ x) }
 {
-    ((0xcbd6_79e3_a582_4100u64 >> (x * 4)) % 16) as u8
+    POWERS[x as usize]
 }
 
 // A symbol at the place x of a word.
@@ -24,6 +26,7 @@ fn symbol_at(x: u8, y: u8) -> u64
     (y as u64) << (power_of(x) * 4)
 }
 
+// Three places as numbers, as the definitions take them: here and in the next two.
 // The wrong symbol at z, from what is left when x and y are taken away.
 fn last_of(x: u8, y: u8, z: u8, u: u8) -> u8
     ensures { result ≡ last_of x y z u }
