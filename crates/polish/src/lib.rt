@@ -18,6 +18,7 @@ use refusal::Refusal;
 pub struct Time {
     // Three-second periods since 1 January 2000.
     pub periods: u32,
+    // These and the flags below are plain numbers, since C has them, and `fits` answers for each.
     // Local time: the source's table says what the two mean together.
     pub tz0: u8,
     pub tz1: u8,

@@ -9,7 +9,7 @@ ghost use Rattle.power_sums.specs.Sums.{six_sums, take_away, goes_on, third_of, 
 
 use field16::{over, times};
 
-// The value of six symbols at x, from the highest power down.
+// The value of six symbols at x, from the highest power down. The symbols are one number, since `explain` is promised of a number.
 fn value_at(x: u8, symbols: u32) -> u8
     ensures { result ≡ at x (digits 4 6 symbols) }
 {

@@ -1,5 +1,5 @@
 // The Reed-Solomon code of the Polish frame: fifteen symbols of four bits, the last six of them check symbols.
-// A word is one number, four bits to each symbol, the first highest.
+// A word is one number, four bits to each symbol, the first highest, since `checks` and `mend` are promised of numbers.
 #![tactic(auto)]
 
 ghost use Rattle.big_endian.specs.Digits.{digits};

@@ -59,6 +59,7 @@ fn second(t: [u8; 5], x: u8) -> Option<u8>
     if !two_places(t, m) {
         return None;
     }
+    // Tried with `find`: the proof did not close.
     for y in 1..16u8 {
         if is_second(t, m, x, y) {
             return Some(y);
@@ -78,6 +79,7 @@ pub struct Places {
 pub fn find_places(s: [u8; 6]) -> Option<Places>
     ensures { Pair s result }
 {
+    // Tried with `find_map`: the proof did not close, with a contract on the closure either.
     for first in 1..16u8 {
         if let Some(second) = second(five(s, first), first) {
             return Some(Places { first, second });
