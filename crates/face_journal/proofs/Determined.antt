@@ -2,6 +2,8 @@
 -- Assumes nothing.
 use mathlib.Core.Path.{sym, ◌∙◌}
 use Rattle.refusal.proofs.Determined.{Determined, Leaves}
+use Rattle.face_journal.proofs.CompactedAnswerFromResultU64Refusal.from.Reads as told-compacted
+use Rattle.face_journal.proofs.ShareAnswerFromResultShareRefusal.from.Reads as told-share
 use Rattle.face_journal.proofs.lw_compact.Reads as compact
 use Rattle.face_journal.proofs.lw_per_thousand.Reads as per_thousand
 use Rattle.face_journal.proofs.lw_report_add.Reads as report-add
@@ -31,3 +33,9 @@ report_join_leaves κs a x y s t p q = p.1 ∙ sym q.1
 
 pub per_thousand_determined : Determined per_thousand.Post
 per_thousand_determined κs a x y s t p q = p ∙ sym q
+
+pub told_compacted_determined : Determined told-compacted.Post
+told_compacted_determined κs a x y s t p q = p ∙ sym q
+
+pub told_share_determined : Determined told-share.Post
+told_share_determined κs a x y s t p q = p ∙ sym q

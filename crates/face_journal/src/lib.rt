@@ -81,7 +81,7 @@ pub extern "C" fn lw_salvage(journal: &[u8]) -> Salvaged
 
 // ---- the report
 
-// 0 where it was counted.
+// 0 where it was counted. Three faces have such a line each: a shared one would be public in refusal, under one more definition.
 fn refusal_of(answer: Result<(), Refusal>) -> u8
     ensures { result ≡ refusal_in answer }
 {
