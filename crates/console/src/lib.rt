@@ -14,7 +14,8 @@ pub enum Failure {
     Output(io::Error),
 }
 
-// How many arguments the program was started with, its own name among them.
+// How many arguments the program was started with, its own name among them. The system is asked for one after the other, since it
+// has no call that counts them.
 pub fn argument_count(rt: &impl Env) -> usize {
     for i in 0..usize::MAX {
         if let Err(FillError::NotPresent) = rt.arg(i, &mut []) {
@@ -50,7 +51,8 @@ fn fail(rt: &impl Eprint, program: &str, failure: Failure) {
     let _ = eprintln!(rt; "{program}: {stream}: {reason}");
 }
 
-// Whether it was done; where not, that is told behind the program's name.
+// Whether it was done; where not, that is told behind the program's name. A bool, since programs end here with the
+// failure told: `is_ok done` is all that is left to promise.
 pub fn is_done(rt: &impl Eprint, program: &str, done: Result<(), Failure>) -> bool
     ensures { result ≡ is_ok done }
 {

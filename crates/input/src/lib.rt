@@ -8,7 +8,7 @@ ghost use Rattle.input.specs.Pieces.{Reads};
 use console::Failure;
 use std::io::{ErrorKind, Read};
 
-// A piece of the input: its bits, and whether there may be more behind it.
+// A piece of the input: its bits, and whether there may be more behind it. A flag beside the bits, since the last piece may have some.
 #[derive(Drop)]
 pub struct Piece<'a> {
     pub bits: &'a [u8],
@@ -50,7 +50,8 @@ fn nothing<'a>(more: bool) -> Piece<'a>
     Piece { bits: &[], more }
 }
 
-// Reads one piece of the input into the buffer. One that a signal interrupted is empty, with more behind it.
+// Reads one piece of the input into the buffer. One that a signal interrupted is empty, with more behind it. One loop for the three
+// programs would be public and ask that its closure is callable, and no public function asks anything.
 pub fn read_bits<'a>(input: &mut impl Read, buffer: &'a mut [u8]) -> Result<Piece<'a>, Failure>
     ensures { IfOk result (Reads buffer.old) }
 {

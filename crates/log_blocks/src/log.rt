@@ -1,6 +1,6 @@
 // What is kept from bit to bit, and the block that a bit uses up.
 ghost use Rattle.std.specs.Prelude.{◌≡◌};
-ghost use Rattle.log_blocks.specs.Log.{heard_of, total};
+ghost use Rattle.log_blocks.specs.Log.{heard_of};
 
 use receiver::{PackedState, step_packed};
 use record::Edition;
@@ -20,12 +20,6 @@ pub struct Heard {
     pub block: Option<u64>,
 }
 
-fn add(start: u64, more: u64) -> u64
-    ensures { result ≡ total start more }
-{
-    start.wrapping_add(more)
-}
-
 // One bit. Nothing that is logged depends on a record, so either edition would do. The waiting bits are in the places from 49 down, so
 // where 49 of them wait, place 0 is the bit's.
 #[tactic(auto, unfolding(crate::specs::Log::heard_of))]
@@ -36,11 +30,11 @@ pub fn hear(kept: Kept, bit: u8) -> Heard
     let ran = step_packed(Edition::Of1984, before, bit);
     let counts = ran.counts;
     let used = u64::from(counts.good) + u64::from(counts.bad);
-    let block = add(before.bits, u64::from(bit));
+    let block = before.bits.wrapping_add(u64::from(bit));
     Heard {
         kept: Kept {
-            fed: add(kept.fed, 1),
-            blocks: add(kept.blocks, used),
+            fed: kept.fed.wrapping_add(1),
+            blocks: kept.blocks.wrapping_add(used),
             state: ran.state,
         },
         block: (0 < used).then_some(block),

@@ -14,6 +14,7 @@ use log::{Kept, hear};
 use output::put_pair;
 use std::io::Read;
 
+// No default: the fresh state is a definition of receiver.
 fn fresh() -> Kept
     ensures { result ≡ fresh_kept }
 {
@@ -46,6 +47,7 @@ fn log_input(rt: &impl Print, input: &mut impl Read) -> Result<Kept, Failure>
 {
     let mut buffer = [0u8; 65536];
     let mut kept = fresh();
+    // So many turns no input has; a loop has to end.
     for _ in 0..u64::MAX {
         let piece = read_bits(input, &mut buffer)?;
         kept = log_all(rt, kept, piece.bits)?;

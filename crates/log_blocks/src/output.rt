@@ -5,6 +5,7 @@ ghost use Rattle.journal.specs.Entries.{pair_bytes};
 use big_endian::store;
 use console::{Failure, put};
 
+// The bytes of a pair. `journal` has no call for it: there the pair is written in place, into a journal that is lent.
 fn pair_of(first: u64, second: u64) -> [u8; 16]
     ensures { result ≡ pair_bytes first second }
 {

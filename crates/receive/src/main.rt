@@ -15,6 +15,7 @@ use report::{say, say_end};
 use std::io::Read;
 use totals::{Kept, hear};
 
+// No default: the fresh state is a definition of receiver.
 fn fresh() -> Kept
     ensures { result ≡ fresh_kept }
 {
@@ -28,12 +29,14 @@ fn fresh() -> Kept
 }
 
 // Feeds all the bits of a piece and tells where lock came or went. After a line that could not be written nothing more is told.
+// What is asked of the state and the bits stands in two contracts alone, this and that of `hear`.
 fn feed_all(rt: &impl Print, start: Kept, bits: &[u8]) -> Result<Kept, Failure>
     requires { (packed_proper edition start.state ≡ true) × Bits bits.now × (length bits.now ≤ 65536) }
     ensures { IfOk result (λ kept. kept ≡ kept_after start bits.now) }
 {
     let mut kept = start;
     let mut rest = bits;
+    // How far a stretch goes is known behind it, so no iterator holds the bits.
     while !rest.is_empty() {
         let heard = hear(kept, rest);
         say(rt, heard.said)?;
@@ -50,6 +53,7 @@ fn feed_input(rt: &impl Print, input: &mut impl Read) -> Result<Kept, Failure>
 {
     let mut buffer = [0u8; 65536];
     let mut kept = fresh();
+    // So many turns no input has; a loop has to end.
     for _ in 0..u64::MAX {
         let piece = read_bits(input, &mut buffer)?;
         kept = feed_all(rt, kept, piece.bits)?;

@@ -2,8 +2,9 @@
 ghost use Rattle.std.specs.Prelude.{◌≡◌, ◌<◌, ◌≤◌, true, length};
 ghost use Rattle.block.specs.Bits.{Bits};
 ghost use Rattle.receiver.specs.Packed.{packed_proper};
-ghost use Rattle.receive.specs.Totals.{edition, total, said_at, heard_of};
+ghost use Rattle.receive.specs.Totals.{edition, said_at, heard_of};
 
+use locking::Lock;
 use receiver::{PackedState, Until, run_until};
 use record::Edition;
 
@@ -32,19 +33,12 @@ pub struct Heard {
     pub said: Option<Said>,
 }
 
-// A total and what comes to it.
-fn add(start: u64, more: u32) -> u64
-    ensures { result ≡ total start more }
-{
-    start.wrapping_add(u64::from(more))
-}
-
 // By the modes before and after bit n.
 #[tactic(auto, unfolding(crate::specs::Totals::said_at, receiver::specs::Changes::same_lock))]
 fn said_at(before: u8, after: u8, n: u64) -> Option<Said>
     ensures { result ≡ said_at before after n }
 {
-    match (before == 2, after == 2) {
+    match (before == Lock::LOCKED, after == Lock::LOCKED) {
         (false, true) => Some(Said::Came(n)),
         (true, false) => Some(Said::Went(n)),
         _ => None,
@@ -66,9 +60,9 @@ pub fn hear(kept: Kept, bits: &[u8]) -> Heard
     Heard {
         kept: Kept {
             fed,
-            good: add(kept.good, counts.good),
-            bad: add(kept.bad, counts.bad),
-            passed: add(kept.passed, counts.passed),
+            good: kept.good.wrapping_add(u64::from(counts.good)),
+            bad: kept.bad.wrapping_add(u64::from(counts.bad)),
+            passed: kept.passed.wrapping_add(u64::from(counts.passed)),
             state,
         },
         fed: stretch.fed,

@@ -1,14 +1,18 @@
 // The lines that are printed.
-ghost use Rattle.std.specs.Prelude.{◌≡◌, length};
-
 use console::{Failure, put_line, put_number};
 use reception::Report;
 use refusal::Refusal;
 
+// What stands before each four codes.
+const FOURS: [&str; 4] = [
+    "codes 0 to 3: ",
+    "codes 4 to 7: ",
+    "codes 8 to 11: ",
+    "codes 12 to 15: ",
+];
+
 // Four codes in a line.
-fn four(rt: &impl Print, text: &str, codes: &[u64]) -> Result<(), Failure>
-    requires { length codes.now ≡ 4 }
-{
+fn four(rt: &impl Print, text: &str, codes: &[u64; 4]) -> Result<(), Failure> {
     put_number(rt, text, codes[0])?;
     put_number(rt, " ", codes[1])?;
     put_number(rt, " ", codes[2])?;
@@ -25,13 +29,14 @@ pub fn say(rt: &impl Print, report: &Report) -> Result<(), Failure> {
     put_number(rt, "good per thousand: ", share.quotient)?;
     put_line(rt, ", remainder ", share.remainder)?;
     put_line(rt, "fillers: ", report.fillers)?;
-    let codes = report.codes;
-    four(rt, "codes 0 to 3: ", &codes[0..4])?;
-    four(rt, "codes 4 to 7: ", &codes[4..8])?;
-    four(rt, "codes 8 to 11: ", &codes[8..12])?;
-    four(rt, "codes 12 to 15: ", &codes[12..16])
+    let (fours, _) = report.codes.as_chunks::<4>();
+    for (text, codes) in FOURS.iter().zip(fours) {
+        four(rt, text, codes)?;
+    }
+    Ok(())
 }
 
+// No Display: these words are this program's, and the library tells a refusal by its number alone.
 fn reason(why: Refusal) -> &'static str {
     match why {
         Refusal::WrongTrailer => "the trailer does not fit",

@@ -17,6 +17,7 @@ fn take_all<'a>(input: &mut impl Read, memory: &'a mut [u8]) -> Result<&'a [u8],
     ensures { IfOk result (λ taken. length taken.now ≤ length memory.old) }
 {
     let mut n = 0;
+    // So many turns no input has; a loop has to end.
     for _ in 0..u64::MAX {
         if n == memory.len() {
             break;
@@ -31,6 +32,7 @@ fn take_all<'a>(input: &mut impl Read, memory: &'a mut [u8]) -> Result<&'a [u8],
     Ok(&memory[..n])
 }
 
+// No default: this program alone starts a report here, and callers from C start one by zeros.
 fn fresh() -> Report {
     Report {
         blocks: 0,
@@ -63,6 +65,7 @@ fn tell(
 }
 
 // What is lent to the journal: most of a stack of eight megabytes. The last byte is there to see that it is too long.
+// A function, so that its contract tells the length, which a check would count out otherwise.
 fn memory() -> [u8; 6291457]
     ensures { 6291457 ≡ length result }
 {

@@ -27,10 +27,7 @@ pub fn filler(edition: Edition) -> u32
 pub fn word_of(edition: Edition, record: Record) -> u32
     ensures { result ≡ word_sent edition «record» }
 {
-    match record::write_record(record) {
-        Ok(word) => word,
-        Err(_) => filler(edition),
-    }
+    record::write_record(record).unwrap_or(filler(edition))
 }
 
 #[tactic(auto, unfolding(crate::specs::Blocks::is_damaged))]
@@ -45,11 +42,7 @@ fn is_damaged(left: Left) -> bool
 fn place_of(left: Left) -> Option<u32>
     ensures { result ≡ place_of left }
 {
-    if is_damaged(left) {
-        Some(drawn(stepped(left.chance) / 0x1_0000, 50))
-    } else {
-        None
-    }
+    is_damaged(left).then_some(drawn(stepped(left.chance) / 0x1_0000, 50))
 }
 
 // What is left after the next block.

@@ -51,17 +51,13 @@ fn read_or<T: Drop, F: FnOnce(&[u8]) -> T + Drop>(
 fn minutes_in(rt: &impl Env) -> Option<u16> {
     let n = read_at(rt, 4, number_of)?;
     let minutes = u16::try_from(n).ok()?;
-    if minutes == 0 { None } else { Some(minutes) }
+    (minutes != 0).then_some(minutes)
 }
 
 // How many blocks to damage, of thirty a minute.
 fn damaged_in(rt: &impl Env, minutes: u16) -> Option<u32> {
     let n = read_or(rt, 5, number_of, Some(0))?;
-    if u32::from(minutes) * 30 < n {
-        None
-    } else {
-        Some(n)
-    }
+    (n <= u32::from(minutes) * 30).then_some(n)
 }
 
 // How long the feed is, how much of it is damaged, and in which edition it is sent.
@@ -90,11 +86,9 @@ fn date_of(day: Day, time: Time, half_hours: i8) -> Option<Date> {
         time.minute,
         half_hours,
     );
-    if calendar::record_of_date(Edition::Of1984, date).is_ok() {
-        Some(date)
-    } else {
-        None
-    }
+    calendar::record_of_date(Edition::Of1984, date)
+        .is_ok()
+        .then_some(date)
 }
 
 fn date_in(rt: &impl Env) -> Result<Date, &'static str> {

@@ -13,7 +13,7 @@ use command::asked;
 use console::{Failure, is_done, put};
 use record::{Edition, Record};
 
-// What is asked for: the edition, the first minute's record, and how many minutes and damaged blocks.
+// What is asked for: the edition, the first minute's record, how many minutes and damaged blocks, and the seed of chance.
 #[derive(Clone, Copy)]
 pub struct Feed {
     pub edition: Edition,

@@ -22,6 +22,7 @@ fn feed_input(input: &mut impl Read, edition: Edition) -> Result<Watch, Failure>
 {
     let mut buffer = [0u8; 65536];
     let mut watch = watch::fresh();
+    // So many turns no input has; a loop has to end.
     for _ in 0..u64::MAX {
         let piece = read_bits(input, &mut buffer)?;
         watch = watch::run(edition, watch, piece.bits).state;

@@ -21,9 +21,9 @@ returns c =
       said_last k bits c.requires.1 c.requires.0,
       after_run k part (λ e. absurd (omega (arith, ap length e))) fed c.requires.0,
       c.said_at.ensures,
-      c.add-3.ensures,
-      c.add-2.ensures,
-      c.add.ensures,
+      c.from-3.ensures,
+      c.from-2.ensures,
+      c.from.ensures,
       c.run_until-stretch.ensures,
       bits_taken edition LockChange k.state bits c.requires.0 c.requires.1 c.requires.3,
     )
