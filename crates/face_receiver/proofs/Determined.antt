@@ -2,6 +2,7 @@
 -- Assumes nothing.
 use mathlib.Core.Path.{sym, ◌∙◌}
 use Rattle.refusal.proofs.Determined.{Determined, Leaves}
+use Rattle.face_receiver.proofs.StandingAnswerFromResultStandingRefusal.from.Reads as answered
 use Rattle.face_receiver.proofs.StandingAnswerFromStanding.from.Reads as told
 use Rattle.face_receiver.proofs.lw_feed.Reads as feed
 use Rattle.face_receiver.proofs.lw_feed_packed.Reads as feed_packed
@@ -57,3 +58,6 @@ watch_run_leaves κs a x y s t p q = p.1 ∙ sym q.1
 
 pub told_determined : Determined told.Post
 told_determined κs a x y s t p q = p ∙ sym q
+
+pub answered_determined : Determined answered.Post
+answered_determined κs a x y s t p q = p ∙ sym q

@@ -88,7 +88,7 @@ pub fn lw_run_packed(edition: u16, state: &mut PackedState, bits: &[u8]) -> Coun
 
 // How the time stands, as C reads it: its kind, and the bit that is to blame, 0 where there is none; zeros where refused.
 #[repr(C)]
-#[derive(Drop)]
+#[derive(Clone, Copy)]
 pub struct StandingAnswer {
     pub refusal: u8,
     pub kind: u8,
@@ -112,6 +112,21 @@ impl From<Standing> for StandingAnswer {
             refusal: 0,
             kind,
             bit,
+        }
+    }
+}
+
+impl From<Result<Standing, Refusal>> for StandingAnswer {
+    ghost from_gives = { λ answer flat. flat ≡ standing_face answer };
+
+    fn from(answer: Result<Standing, Refusal>) -> StandingAnswer {
+        match answer {
+            Ok(standing) => StandingAnswer::from(standing),
+            Err(why) => StandingAnswer {
+                refusal: u8::from(why),
+                kind: 0,
+                bit: 0,
+            },
         }
     }
 }
@@ -141,12 +156,5 @@ fn why_under(edition: u16, watch: Watch) -> Result<Standing, Refusal>
 pub fn lw_why(edition: u16, watch: Watch) -> StandingAnswer
     ensures { result ≡ standing_face (why_under edition watch) }
 {
-    match why_under(edition, watch) {
-        Ok(standing) => StandingAnswer::from(standing),
-        Err(why) => StandingAnswer {
-            refusal: u8::from(why),
-            kind: 0,
-            bit: 0,
-        },
-    }
+    StandingAnswer::from(why_under(edition, watch))
 }
