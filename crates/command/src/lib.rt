@@ -17,7 +17,8 @@ fn edition_in(rt: &impl Env, i: usize) -> Result<Edition, Refusal>
     edition_of(argument(rt, i, &mut text))
 }
 
-// Where standard error takes nothing there is nowhere else to tell it.
+// Where standard error takes nothing there is nowhere else to tell it. No type for the two reasons: each is told at one place, behind the
+// name of the program.
 fn too_many(rt: &impl Eprint, program: &str) {
     let _ = eprintln!(rt;
         "{program}: refused with 6: expected [EDITION] alone, as in: {program} 1982"

@@ -1,4 +1,4 @@
-// The line that is printed.
+// The line that is printed. No `Display`: a text and the number behind it are written one after the other, as by every program.
 use console::{Failure, put, put_line};
 use watch::Standing;
 
