@@ -25,20 +25,30 @@ fn fresh() -> Kept
     }
 }
 
+// What is kept after a piece, and whether every entry of it was written. A struct and no Result: what was read is fed all the same.
+#[derive(Drop)]
+struct Logged {
+    kept: Kept,
+    written: Result<(), Failure>,
+}
+
 // Feeds all the bits of a piece and writes an entry for each block that they use up. After one that could not be written nothing
 // more is written.
-fn log_all(rt: &impl Print, start: Kept, bits: &[u8]) -> Result<Kept, Failure>
-    ensures { IfOk result (λ kept. kept ≡ kept_after start bits.now) }
+fn log_all(rt: &impl Print, start: Kept, bits: &[u8]) -> Logged
+    ensures { result.kept ≡ kept_after start bits.now }
 {
     let mut kept = start;
+    let mut written = Ok(());
     for bit in bits {
         let heard = hear(kept, *bit);
         kept = heard.kept;
         if let Some(block) = heard.block {
-            put_pair(rt, kept.fed, block)?;
+            if written.is_ok() {
+                written = put_pair(rt, kept.fed, block);
+            }
         }
     }
-    Ok(kept)
+    Logged { kept, written }
 }
 
 // Logs piece after piece, until the input ends, or reading or writing fails.
@@ -50,7 +60,9 @@ fn log_input(rt: &impl Print, input: &mut impl Read) -> Result<Kept, Failure>
     // So many turns no input has; a loop has to end.
     for _ in 0..u64::MAX {
         let piece = read_bits(input, &mut buffer)?;
-        kept = log_all(rt, kept, piece.bits)?;
+        let logged = log_all(rt, kept, piece.bits);
+        kept = logged.kept;
+        logged.written?;
         if !piece.more {
             break;
         }

@@ -28,23 +28,33 @@ fn fresh() -> Kept
     }
 }
 
+// What is kept after a piece, and whether every line about it was written. A struct and no Result: what was read is fed all the same.
+#[derive(Drop)]
+struct Fed {
+    kept: Kept,
+    told: Result<(), Failure>,
+}
+
 // Feeds all the bits of a piece and tells where lock came or went. After a line that could not be written nothing more is told.
 // What is asked of the state and the bits stands in two contracts alone, this and that of `hear`.
-fn feed_all(rt: &impl Print, start: Kept, bits: &[u8]) -> Result<Kept, Failure>
+fn feed_all(rt: &impl Print, start: Kept, bits: &[u8]) -> Fed
     requires { (packed_proper edition start.state ≡ true) × Bits bits.now × (length bits.now ≤ 65536) }
-    ensures { IfOk result (λ kept. kept ≡ kept_after start bits.now) }
+    ensures { result.kept ≡ kept_after start bits.now }
 {
     let mut kept = start;
+    let mut told = Ok(());
     let mut rest = bits;
     // How far a stretch goes is known behind it, so no iterator holds the bits.
     while !rest.is_empty() {
         let heard = hear(kept, rest);
-        say(rt, heard.said)?;
+        if told.is_ok() {
+            told = say(rt, heard.said);
+        }
         kept = heard.kept;
         let fed = heard.fed;
         rest = &rest[fed..];
     }
-    Ok(kept)
+    Fed { kept, told }
 }
 
 // Feeds piece after piece, until the input ends, or reading or writing fails.
@@ -56,7 +66,9 @@ fn feed_input(rt: &impl Print, input: &mut impl Read) -> Result<Kept, Failure>
     // So many turns no input has; a loop has to end.
     for _ in 0..u64::MAX {
         let piece = read_bits(input, &mut buffer)?;
-        kept = feed_all(rt, kept, piece.bits)?;
+        let fed = feed_all(rt, kept, piece.bits);
+        kept = fed.kept;
+        fed.told?;
         if !piece.more {
             break;
         }

@@ -7,7 +7,7 @@ pub loop-init : goal.loop-init
 loop-init g c = rw c.fresh-kept.ensures fed_none
 
 pub loop-preserved : goal.loop-preserved
-loop-preserved g c = fed_more c.loop.invariant _ c.in_ok-kept.ensures
+loop-preserved g c = fed_more c.loop.invariant _ c.log_all-logged.ensures
 
 pub returns-then-not-piece : goal.returns-then-not-piece
-returns-then-not-piece g c = fed_more c.loop.invariant _ c.in_ok-kept.ensures
+returns-then-not-piece g c = fed_more c.loop.invariant _ c.log_all-logged.ensures

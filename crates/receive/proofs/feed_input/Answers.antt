@@ -7,13 +7,13 @@ use Rattle.receive.proofs.feed_input.Goals as goal
 pub loop-init : goal.loop-init
 loop-init g c = rw c.fresh-kept.ensures fed_none
 
-pub feed_all-requires : goal.feed_all-requires
-feed_all-requires g c =
+pub feed_all-fed-requires : goal.feed_all-fed-requires
+feed_all-fed-requires g c =
     let piece = c.in_ok-piece.ensures in
     (fed_proper c.loop.invariant, piece.bits, omega (arith, piece.size))
 
 pub loop-preserved : goal.loop-preserved
-loop-preserved g c = fed_more c.loop.invariant _ c.in_ok-piece.ensures.bits c.in_ok-kept.ensures
+loop-preserved g c = fed_more c.loop.invariant _ c.in_ok-piece.ensures.bits c.feed_all-fed.ensures
 
 pub returns-then-not-piece : goal.returns-then-not-piece
-returns-then-not-piece g c = fed_more c.loop.invariant _ c.in_ok-piece.ensures.bits c.in_ok-kept.ensures
+returns-then-not-piece g c = fed_more c.loop.invariant _ c.in_ok-piece.ensures.bits c.feed_all-fed.ensures
