@@ -33,8 +33,8 @@ impl Report {
         }
     }
 
-    // The whole entries in some bytes come to it.
-    pub fn count_all(&mut self, edition: Edition, bytes: &[u8])
+    // The whole entries in some bytes come to it. For this crate alone, since it has a condition.
+    pub(crate) fn count_all(&mut self, edition: Edition, bytes: &[u8])
         requires { (is_proper self.old ≡ true) × (self.old.blocks + length bytes.now / 16 ≤ 2 ^ 32) }
         ensures { self.new ≡ plus self.old (tally_of edition (whole_entries bytes.now)) }
     {
