@@ -24,7 +24,13 @@ fn value_at(x: u8, symbols: u32) -> u8
 pub fn sums(symbols: u32) -> [u8; 6]
     ensures { result ≡ six_sums (digits 4 6 symbols) }
 {
-    [2, 4, 8, 3, 6, 12].map(|x| value_at(x, symbols))
+    let places = [2, 4, 8, 3, 6, 12];
+    let mut values = places;
+    // A loop: with the array's own `map`, which ends in a trap, a frame that is refused at once took twice as long.
+    for (i, value) in values.iter_mut().enumerate() {
+        *value = value_at(places[i], symbols);
+    }
+    values
 }
 
 // The five numbers that are left of six when a place is taken away.

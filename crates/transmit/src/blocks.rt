@@ -86,7 +86,12 @@ fn character(bit: u8) -> u8
 fn characters(bits: [u8; 50]) -> [u8; 50]
     ensures { result ≡ map character_of bits }
 {
-    bits.map(character)
+    let mut line = bits;
+    // A loop, since with the array's own `map` a feed took three times as many instructions.
+    for (i, place) in line.iter_mut().enumerate() {
+        *place = character(bits[i]);
+    }
+    line
 }
 
 // The next block as it is sent: of code 0, which is never refused, and damaged if its turn has come.
