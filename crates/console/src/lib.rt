@@ -4,7 +4,7 @@
 ghost use Rattle.std.specs.Prelude.{◌≡◌, ◌≤◌, is_ok, length};
 
 use std::env::{Env, FillError};
-use std::fmt::InlineText;
+use std::fmt::{Display, InlineText};
 use std::io::{self, ErrorKind};
 
 // Which of a program's streams failed, and why.
@@ -37,18 +37,14 @@ pub fn argument<'a>(rt: &impl Env, i: usize, buffer: &'a mut [u8]) -> &'a [u8]
 
 // A line on standard error: what failed, and why, in the system's words alone. Where standard error takes nothing there is nowhere
 // else to tell it.
-fn fail(rt: &impl Eprint, program: &str, failure: Failure) {
-    let (stream, error) = match failure {
-        Failure::Input(error) => ("standard input", error),
-        Failure::Output(error) => ("standard output", error),
-    };
+pub fn fail(rt: &impl Eprint, what: impl Display + Drop, error: io::Error) {
     let text = InlineText::<256>::of(error);
     let words = text.as_str();
     let reason = match words.split_once(" (os error ") {
         Some((reason, _)) => reason,
         None => words,
     };
-    let _ = eprintln!(rt; "{program}: {stream}: {reason}");
+    let _ = eprintln!(rt; "{what}: {reason}");
 }
 
 // Whether it was done; where not, that is told behind the program's name. A bool, since programs end here with the
@@ -59,7 +55,11 @@ pub fn is_done(rt: &impl Eprint, program: &str, done: Result<(), Failure>) -> bo
     match done {
         Ok(()) => true,
         Err(failure) => {
-            fail(rt, program, failure);
+            let (stream, error) = match failure {
+                Failure::Input(error) => ("standard input", error),
+                Failure::Output(error) => ("standard output", error),
+            };
+            fail(rt, format_args!("{program}: {stream}"), error);
             false
         }
     }
