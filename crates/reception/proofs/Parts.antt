@@ -1,11 +1,15 @@
--- What it says that a report is proper, part by part: at most 2^32 blocks, and whole.
+-- What it says that a report is proper, part by part: at most 2^32 blocks, and whole; and that bytes have room in it or not.
 -- Assumes nothing.
 use borrow.Author.Tests.{le-leb, leb-true, eq-eqb, eqb-true}
-use mathlib.Core.Bool.{true, and-eq-true_iff}
+use mathlib.Core.Bool.{true, and-eq-true_iff, Bool-discrete}
+use mathlib.Core.List.{List}
+use mathlib.Core.Logic.Dec.{and}
 use mathlib.Core.Path.{◌≡◌}
-use Prim.Native.Nat.{◌^◌, ◌≤◌}
+use Prim.Native.Nat.{ℕ, ◌+◌, ◌-◌, ◌/◌, ◌^◌, ◌≤◌}
 use native.Mathlib.Omega.{arith}
-use lib.ListN.{get_or}
+use lib.ListN.{get_or, length}
+use Rattle.std.proofs.Math.Decide.{dec_le}
+use Rattle.reception.specs.Adding.{HasRoom}
 use Rattle.reception.specs.Laws.{Whole}
 use Rattle.reception.specs.Reports.{is_proper, total}
 use Rattle.reception.specs.declared.Report.{Report}
@@ -37,3 +41,9 @@ module _ (r : Report) where
       let p = parts e in
       let first = place_le r.codes 0 in
       record { blocks = omega arith; good = omega arith; fillers = omega arith; codes = omega arith }
+
+  pub has_room : (bytes : List ℕ) → is_proper r ≡ true → length bytes / 16 ≤ 2 ^ 32 - r.blocks → HasRoom r bytes
+  has_room bytes e few = (e, omega (arith, small e))
+
+  pub room : (bytes : List ℕ) → Dec (HasRoom r bytes)
+  room bytes = and (Bool-discrete (is_proper r) true) (dec_le (r.blocks + length bytes / 16) (2 ^ 32))

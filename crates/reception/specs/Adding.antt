@@ -1,6 +1,6 @@
--- Adding a journal to a report, and joining two reports (02, No. 12). A refusal leaves the report as it was.
+-- Adding a journal to a report, joining two reports, and counting any bytes into one (02, No. 12). A refusal leaves the report as it was.
 -- Assumes nothing.
-use Rattle.std.specs.Prelude.{cond, ◌&&◌, List, ℕ, ◌+◌, ◌^◌, leb, Result, Ok, Err}
+use Rattle.std.specs.Prelude.{true, ◌≡◌, cond, ◌&&◌, List, ℕ, ◌+◌, ◌/◌, ◌^◌, ◌≤◌, leb, length, Result, Ok, Err}
 use Rattle.refusal.specs.declared.Refusal.{Refusal}
 use Rattle.refusal.specs.declared.Refusal.TheVariants.{Improper, TooManyBlocks}
 use Rattle.record.specs.declared.Edition.{Edition}
@@ -35,3 +35,7 @@ answered (Err why) = Err why
 abbrev pub left_by : Report → Result Report Refusal → Report
 left_by r (Ok after) = after
 left_by r (Err why) = r
+
+-- the whole entries in some bytes can all come to a report: it is proper, and has at most 2^32 blocks then
+abbrev pub HasRoom : Report → List ℕ → Type 0
+HasRoom r bytes = (is_proper r ≡ true) × (r.blocks + length bytes / 16 ≤ 2 ^ 32)

@@ -2,6 +2,8 @@
 #![tactic(auto)]
 
 mod tally;
+#[cfg(test)]
+mod tests;
 
 ghost use Rattle.std.specs.Prelude.{true, ◌≡◌, ◌≤◌, ◌^◌, eqb};
 ghost use Rattle.reception.specs.Adding.{add_of, answered, join_of, left_by};
@@ -118,7 +120,7 @@ impl Report {
             return Err(Refusal::TooManyBlocks);
         }
         let end = wanted.first + 16 * wanted.count;
-        self.count_all(edition, &journal[wanted.first..end]);
+        self.count_entries(edition, &journal[wanted.first..end]);
         Ok(())
     }
 

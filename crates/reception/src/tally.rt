@@ -3,6 +3,7 @@ ghost use Rattle.std.specs.Prelude.{true, ◌≡◌, ◌&&◌, eqb, ◌+◌, ◌
 ghost use Rattle.block.specs.Packed.{read_packed};
 ghost use Rattle.journal.specs.Salvage.{whole_entries};
 ghost use Rattle.record.specs.Editions.{is_filler};
+ghost use Rattle.reception.specs.Adding.{HasRoom};
 ghost use Rattle.reception.specs.Reports.{is_proper, plus};
 ghost use Rattle.reception.specs.Tally.{one_block, tally_of};
 
@@ -34,13 +35,24 @@ impl Report {
     }
 
     // The whole entries in some bytes come to it. For this crate alone, since it has a condition.
-    pub(crate) fn count_all(&mut self, edition: Edition, bytes: &[u8])
+    pub(crate) fn count_entries(&mut self, edition: Edition, bytes: &[u8])
         requires { (is_proper self.old ≡ true) × (self.old.blocks + length bytes.now / 16 ≤ 2 ^ 32) }
         ensures { self.new ≡ plus self.old (tally_of edition (whole_entries bytes.now)) }
     {
         let (chunks, _) = bytes.as_chunks::<16>();
         for entry in chunks {
             self.count(edition, number_of(&entry[8..]));
+        }
+    }
+
+    // The whole entries in some bytes come to it, in whatever order they stand. Where it is not proper or would have more than 2^32
+    // blocks, it stays as it was.
+    pub fn count_all(&mut self, edition: Edition, bytes: &[u8])
+        ensures counted { HasRoom self.old bytes.now → self.new ≡ plus self.old (tally_of edition (whole_entries bytes.now)) }
+        ensures left { ¬ HasRoom self.old bytes.now → self.new ≡ self.old }
+    {
+        if self.is_proper() && bytes.len() as u64 / 16 <= 0x1_0000_0000 - self.blocks {
+            self.count_entries(edition, bytes);
         }
     }
 }

@@ -38,11 +38,11 @@ overflow_mul-end c = omega (arith, wanted_inside c.args.journal.now c.in_ok-want
 pub overflow_add-end : goal.overflow_add-end
 overflow_add-end c = omega (arith, wanted_inside c.args.journal.now c.in_ok-wanted.wanted (sym c.in_ok-wanted.ensures))
 
-pub slice_bounds-count_all-end : goal.slice_bounds-count_all-end
-slice_bounds-count_all-end c = omega (arith, wanted_inside c.args.journal.now c.in_ok-wanted.wanted (sym c.in_ok-wanted.ensures))
+pub slice_bounds-count_entries-end : goal.slice_bounds-count_entries-end
+slice_bounds-count_entries-end c = omega (arith, wanted_inside c.args.journal.now c.in_ok-wanted.wanted (sym c.in_ok-wanted.ensures))
 
-pub count_all-requires : goal.count_all-requires
-count_all-requires c =
+pub count_entries-requires : goal.count_entries-requires
+count_entries-requires c =
     let self = c.args.self.now in
     let s = c.args.journal.now in
     let w = c.in_ok-wanted.wanted in
@@ -60,4 +60,4 @@ returns c =
     let inside = wanted_inside s w (sym c.in_ok-wanted.ensures) in
     let e = comes_to c.args.edition self proper s w (sym c.in_ok-wanted.ensures) (omega (arith, small self proper)) in
     let there = entries_part s w.first w.count (omega arith) in
-    record { told = rw e; left = rw e (c.count_all.ensures ∙ ap (λ es. plus self (tally_of c.args.edition es)) there) }
+    record { told = rw e; left = rw e (c.count_entries.ensures ∙ ap (λ es. plus self (tally_of c.args.edition es)) there) }
