@@ -1,4 +1,5 @@
--- Adding a journal to a report, joining two reports, and counting any bytes into one (02, No. 12). A refusal leaves the report as it was.
+-- Adding a journal to a report, and joining two reports (02, No. 12); and which bytes can be counted into one. A refusal leaves the
+-- report as it was.
 -- Assumes nothing.
 use Rattle.std.specs.Prelude.{true, ◌≡◌, cond, ◌&&◌, List, ℕ, ◌+◌, ◌/◌, ◌^◌, ◌≤◌, leb, length, Result, Ok, Err}
 use Rattle.refusal.specs.declared.Refusal.{Refusal}
@@ -36,6 +37,6 @@ abbrev pub left_by : Report → Result Report Refusal → Report
 left_by r (Ok after) = after
 left_by r (Err why) = r
 
--- the whole entries in some bytes can all come to a report: it is proper, and has at most 2^32 blocks then
+-- the whole entries in some bytes, sixteen bytes to an entry, can all come to a report: it is proper, and has at most 2^32 blocks then
 abbrev pub HasRoom : Report → List ℕ → Type 0
 HasRoom r bytes = (is_proper r ≡ true) × (r.blocks + length bytes / 16 ≤ 2 ^ 32)

@@ -11,40 +11,39 @@ const BYTES: [u8; 51] = [
     0, 0, 0,
 ];
 
-// A report whose good blocks are all of code 0.
-fn of_code_0(blocks: u64, good: u64, fillers: u64) -> Report {
+// Blocks, good ones, fillers, and the good ones of codes 0 and 10, when the bytes were counted into a report whose good blocks were
+// all of code 0.
+fn totals_after(blocks: u64, good: u64, fillers: u64) -> [u64; 5] {
     let mut codes = [0; 16];
     codes[0] = good;
-    Report {
+    let mut report = Report {
         blocks,
         good,
         fillers,
         codes,
-    }
+    };
+    report.count_all(Edition::Of1984, &BYTES);
+    [
+        report.blocks,
+        report.good,
+        report.fillers,
+        report.codes[0],
+        report.codes[10],
+    ]
 }
 
 #[test]
 fn entries_in_any_order_come_to_a_report(rt: HostRuntime) {
     for (blocks, good, fillers) in [(0, 0, 0), (7, 5, 4), (0xFFFF_FFFD, 0xFFFF_FFFD, 0)] {
-        let mut report = of_code_0(blocks, good, fillers);
-        report.count_all(Edition::Of1984, &BYTES);
-        assert_eq!(rt; report.blocks, blocks + 3);
-        assert_eq!(rt; report.good, good + 2);
-        assert_eq!(rt; report.fillers, fillers + 1);
-        assert_eq!(rt; report.codes[0], good + 1);
-        assert_eq!(rt; report.codes[10], 1);
+        let totals = [blocks + 3, good + 2, fillers + 1, good + 1, 1];
+        assert_eq!(rt; totals_after(blocks, good, fillers), totals);
     }
 }
 
 #[test]
 fn a_report_without_room_stays(rt: HostRuntime) {
     for (blocks, good, fillers) in [(0xFFFF_FFFE, 9, 8), (4, 5, 0), (5, 4, 5)] {
-        let mut report = of_code_0(blocks, good, fillers);
-        report.count_all(Edition::Of1984, &BYTES);
-        assert_eq!(rt; report.blocks, blocks);
-        assert_eq!(rt; report.good, good);
-        assert_eq!(rt; report.fillers, fillers);
-        assert_eq!(rt; report.codes[0], good);
-        assert_eq!(rt; report.codes[10], 0);
+        let totals = [blocks, good, fillers, good, 0];
+        assert_eq!(rt; totals_after(blocks, good, fillers), totals);
     }
 }
